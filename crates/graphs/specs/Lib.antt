@@ -1,0 +1,6 @@
+pub mod First
+pub mod Models
+pub mod Files
+pub mod FileLaws
+pub mod LiftFiles
+pub mod ListedFiles
