@@ -1,3 +1,4 @@
 pub mod Loops
 pub mod Questions
 pub mod Opening
+pub mod Meetings

@@ -56,8 +56,8 @@ sizes-from : (s : Shape) → Sizes (places-of s) (rows-of s) (s .degree) → siz
 sizes-from s z =
     and-from _ _
     (and-from _ _
-      (and-from _ _ (within-from 1 512 (places-of s) (z .some-place) (z .few-places)) (within-from 1 512 (rows-of s) (z .some-row) (z .few-rows)))
-      (within-from 1 16 (s .degree) (z .some-edge) (z .few-edges)))
+    (and-from _ _ (within-from 1 512 (places-of s) (z .some-place) (z .few-places)) (within-from 1 512 (rows-of s) (z .some-row) (z .few-rows)))
+    (within-from 1 16 (s .degree) (z .some-edge) (z .few-edges)))
     (le-leb (s .degree) (rows-of s) (z .enough-rows))
 
 -- each factor of a product that is not 0 is not 0
@@ -118,7 +118,7 @@ below-trans a b c p q =
     (λ r. ⊎-elim (λ m. inl (omega arith)) (λ m. inr (r .0 ∙ m .0, omega arith)) q)
     p
 
-mapped-none : {A B : Type 0} (f : A → B) (o : Option A) → mapped f o ≡ None → o ≡ None
+pub mapped-none : {A B : Type 0} (f : A → B) (o : Option A) → mapped f o ≡ None → o ≡ None
 mapped-none f None h = refl
 mapped-none f (Some x) h = let n : _≡_ {A = ℕ} 0 1 = cc in absurd (omega arith)
 
@@ -257,8 +257,7 @@ module _ (form : Form) (bytes : List ℕ) (s : Shape) (d : Describes form bytes 
       let whole : r / c * s .lift + t ≡ i = ap (λ x. x * s .lift + t) (sym (d .column r hr)) ∙ ei in
       let quotient : i / s .lift ≡ r / c = ap (λ x. x / s .lift) (sym whole) ∙ digits-div (r / c) ht in
       let rest : i % s .lift ≡ t = ap (λ x. x % s .lift) (sym whole) ∙ digits-mod (r / c) ht in
-      let same : record-of s i (r % c) ≡ r = ap (λ x. x * c + r % c) quotient ∙ div-add-mod' r c in
-      (
+      let same : record-of s i (r % c) ≡ r = ap (λ x. x * c + r % c) quotient ∙ div-add-mod' r c in (
         subst (λ x. x < places-of s) whole (digits-lt (div-below r c (s .columns) some hr) ht),
         (r % c, mod-lt r some, (λ p. row-of s (entry-of form bytes (same p)) (rest p)) ∙ ej, ap (λ x. entry-of form bytes x .weight) same ∙ ew),
       )

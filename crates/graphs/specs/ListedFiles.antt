@@ -128,13 +128,13 @@ module _ (bytes : List ℕ) (n m c : ℕ) where
 
   pub listed-edges : isSome (listed-fault bytes n m c) ≡ false → ListedEdges bytes n m c
   listed-edges none i j w =
-      let d = describes-from Listed bytes (listed-shape n m c) (none-from _ none) in
-      (
+      let d = describes-from Listed bytes (listed-shape n m c) (none-from _ none) in (
         (λ h. plain (edge-in-file Listed bytes (listed-shape n m c) d i j w (subst (λ g. HasEdge g i j w) (sym same-model) h))),
         λ h. subst (λ g. HasEdge g i j w) same-model (edge-of-file Listed bytes (listed-shape n m c) d i j w (lifted h)),
       )
     where
       plain : FileEdge Listed bytes (listed-shape n m c) i j w → ListedEdge bytes n c i j w
       plain (r, t, hr, ht, ei, ej, ew) = (r, hr, omega arith, omega arith, ew)
+
       lifted : ListedEdge bytes n c i j w → FileEdge Listed bytes (listed-shape n m c) i j w
       lifted (r, hr, ei, ej, ew) = (r, 0, hr, omega arith, omega arith, omega arith, ew)

@@ -5,7 +5,7 @@ use Prim.Native.Nat.{ℕ, _+_, _-_, _≤_, _<_}
 use lib.Dec.{eqb, ltb}
 use Rattle.std.specs.declared.option.Option.{Option}
 use Rattle.std.specs.declared.option.Option.the-variants.{None, Some}
-use Rattle.std.specs.Options.{mapped}
+use Rattle.std.specs.Options.{mapped, Cases}
 use Rattle.graphs.specs.declared.traits.Edge.{Edge}
 use Rattle.graphs.specs.declared.traits.Meeting.{Meeting}
 use Rattle.graphs.specs.First.{first}
@@ -62,3 +62,16 @@ next-meeting g j p = first (meeting g j) p (g .places - p)
 -- place i has an edge of weight w to row j
 abbrev pub HasEdge : GraphModel → ℕ → ℕ → ℕ → Type 0
 HasEdge g i j w = (i < g .places) × ((k : ℕ) × (k < g .degree) × (g .row i k ≡ j) × (g .weight i k ≡ w))
+
+-- m is where row j first meets a place at or after p
+pub record Nearest (g : GraphModel) (j p : ℕ) (m : Meeting) : Type 0 where
+  pub reached : p ≤ m .place .0
+  pub edge : HasEdge g (m .place .0) j (m .weight)
+  pub none-before : (i w : ℕ) → p ≤ i → i < m .place .0 → HasEdge g i j w → ⊥
+
+-- row j meets no place at or after p
+abbrev pub NoneFrom : GraphModel → ℕ → ℕ → Type 0
+NoneFrom g j p = (i w : ℕ) → p ≤ i → HasEdge g i j w → ⊥
+
+abbrev pub NearestOrNone : GraphModel → ℕ → ℕ → Option Meeting → Type 0
+NearestOrNone g j p r = Cases r (NoneFrom g j p) (Nearest g j p)

@@ -11,5 +11,12 @@ pub use listed::Listed;
 pub use listed::ListedFile;
 pub use listed::ListedGraph;
 pub use traits::Edge;
+pub use traits::EdgeDebug;
+pub use traits::EdgePartialEq;
 pub use traits::Graph;
 pub use traits::Meeting;
+pub use traits::MeetingDebug;
+pub use traits::MeetingPartialEq;
+
+#[cfg(test)]
+mod tests;

@@ -35,7 +35,13 @@ pub struct LiftFile<'a> {
 impl<'a> LiftFile<'a> {
     // Checks the bytes of a file against the numbers that it is opened with: base rows, base columns, lift size and
     // degree.
-    pub fn check(bytes: &'a [u8], bases: usize, columns: usize, size: usize, degree: usize) -> Result<LiftFile<'a>, Fault>
+    pub fn check(
+        bytes: &'a [u8],
+        bases: usize,
+        columns: usize,
+        size: usize,
+        degree: usize,
+    ) -> Result<LiftFile<'a>, Fault>
         ensures fault { λ r. ⌜ errPart r ≡ lift-fault (now (bytes .entry)) bases columns size degree ⌝ }
         ensures granted { λ r. ⌜ Decides (isOk r) (DescribesLift (now (bytes .entry)) bases columns size degree) ⌝ }
         ensures holds { λ r. ⌜ made r (λ f. (now (f .bytes) ≡ now (bytes .entry)) × (f .bases ≡ bases) × (f .columns ≡ columns) × (f .size ≡ size) × (f .degree ≡ degree)) ⌝ }

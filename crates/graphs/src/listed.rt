@@ -32,7 +32,12 @@ pub struct ListedFile<'a> {
 
 impl<'a> ListedFile<'a> {
     // Checks the bytes of a file against the numbers that it is opened with.
-    pub fn check(bytes: &'a [u8], places: usize, rows: usize, degree: usize) -> Result<ListedFile<'a>, Fault>
+    pub fn check(
+        bytes: &'a [u8],
+        places: usize,
+        rows: usize,
+        degree: usize,
+    ) -> Result<ListedFile<'a>, Fault>
         ensures fault { λ r. ⌜ errPart r ≡ listed-fault (now (bytes .entry)) places rows degree ⌝ }
         ensures granted { λ r. ⌜ Decides (isOk r) (DescribesListed (now (bytes .entry)) places rows degree) ⌝ }
         ensures holds { λ r. ⌜ made r (λ f. (now (f .bytes) ≡ now (bytes .entry)) × (f .places ≡ places) × (f .rows ≡ rows) × (f .degree ≡ degree)) ⌝ }

@@ -103,7 +103,8 @@ impl Shape {
         requires { ⌜ 0 < self .degree ⌝ }
         ensures { λ r. ⌜ r ≡ in-order self k before entry ⌝ }
     {
-        entry.column as usize == k / self.degree && (k % self.degree == 0 || entry.ascends_from(before))
+        entry.column as usize == k / self.degree
+            && (k % self.degree == 0 || entry.ascends_from(before))
     }
 
     fn in_range(self, entry: Entry) -> bool

@@ -1,5 +1,5 @@
 ghost use mathlib.Core.Path.{_≡_};
-ghost use Rattle.graphs.specs.Models.{GraphModel, Valid, edge-at, weight-between, next-meeting};
+ghost use Rattle.graphs.specs.Models.{GraphModel, Valid, edge-at, weight-between, next-meeting, NearestOrNone};
 use refusals::Place;
 use refusals::PlaceDebug;
 use refusals::PlacePartialEq;
@@ -56,7 +56,8 @@ pub trait Graph {
 
     // The first place at or after `from` that `row` meets.
     fn next_place(&self, row: Row, from: Place) -> Option<Meeting>
-        ensures { λ r. ⌜ r ≡ next-meeting (model (now (self .entry))) (row .0) (from .0) ⌝ }
+        ensures value { λ r. ⌜ r ≡ next-meeting (model (now (self .entry))) (row .0) (from .0) ⌝ }
+        ensures nearest { λ r. ⌜ NearestOrNone (model (now (self .entry))) (row .0) (from .0) r ⌝ }
     {
         for i in from.0 as usize..self.places() {
             let place = Place(i as u16);

@@ -25,8 +25,7 @@ returns-in-Some c =
 pub loop-k-again : need.loop-k-again
 loop-k-again c =
     let found = found-at (c .args .form) (c .args .bytes .now) (c .args .shape) (c .loop-k .k) (c .loop-k .before) (c .entry-entry .result) _ (c .loop-k .inv .1) (c .entry-entry .ensures) (c .in-rest .ensures tt) in
-    let here : c .loop-k .k ≡ c .loop-k .k + 1 - 1 = omega arith in
-    (
+    let here : c .loop-k .k ≡ c .loop-k .k + 1 - 1 = omega arith in (
       sym (first-skip _ (c .loop-k .k) (records-of (c .args .shape)) (c .loop-k-test .taken) found) ∙ c .loop-k .inv .0,
       c .entry-entry .ensures ∙ ap (entry-of (c .args .form) (c .args .bytes .now)) here,
     )
