@@ -49,7 +49,7 @@ within low high x = leb low x && leb x high
 abbrev pub sizes-fit : Shape → Bool
 sizes-fit s = within 1 512 (places-of s) && within 1 512 (rows-of s) && within 1 16 (s .degree) && leb (s .degree) (rows-of s)
 
--- the pairs of base row and shift ascend from d to e
+-- the same as `Below`, as a test
 abbrev pub ascends : Entry → Entry → Bool
 ascends d e = ltb (d .base) (e .base) || (eqb (d .base) (e .base) && ltb (d .shift) (e .shift))
 
@@ -83,7 +83,7 @@ file-fault form bytes s =
 abbrev pub Octets : List ℕ → Type 0
 Octets bytes = (i : ℕ) → getD bytes i 0 < 256
 
--- d may stand right before e in a column: the pairs of base row and shift strictly ascend
+-- the pairs of base row and shift strictly ascend from d to e
 abbrev pub Below : Entry → Entry → Type 0
 Below d e = (d .base < e .base) ⊎ ((d .base ≡ e .base) × (d .shift < e .shift))
 
@@ -115,7 +115,7 @@ file-model form bytes s = record {
   weight = λ i k. entry-of form bytes (record-of s i k) .weight;
 }
 
--- some record has an edge of weight w from place i to row j among the edges, one for each t below the lift size, that it means
+-- among the edges that some record means, one for each t below the lift size, one of weight w leads from place i to row j
 abbrev pub FileEdge : Form → List ℕ → Shape → ℕ → ℕ → ℕ → Type 0
 FileEdge form bytes s i j w =
     (r : ℕ) × (t : ℕ) × (r < records-of s) × (t < s .lift) × (entry-of form bytes r .column * s .lift + t ≡ i)

@@ -8,6 +8,7 @@ ghost use Rattle.std.specs.Vec.{made};
 ghost use Rattle.graphs.specs.Files.{Octets};
 ghost use Rattle.graphs.specs.LiftFiles.{lift-fault, lift-model, LiftGranted, LiftEdges, valid-lift};
 use crate::records::Form;
+use crate::records::Seal;
 use crate::records::Shape;
 use crate::records::file_fault;
 use crate::traits::Edge;
@@ -18,11 +19,10 @@ use refusals::Row;
 use std::cell::Cell;
 
 // A file of base records, checked: with these numbers it describes a lift.
-// The seal holds nothing. With a cell among the fields rattle writes the proofs of code over a `Result` of such files.
 #[derive(Drop)]
 pub struct LiftFile<'a> {
     bytes: &'a [u8],
-    seal: Cell<()>,
+    seal: Seal,
     bases: usize,
     columns: usize,
     size: usize,

@@ -7,6 +7,7 @@ ghost use Rattle.std.specs.Vec.{made};
 ghost use Rattle.graphs.specs.Files.{Octets};
 ghost use Rattle.graphs.specs.ListedFiles.{listed-fault, listed-model, ListedGranted, ListedEdges, valid-listed};
 use crate::records::Form;
+use crate::records::Seal;
 use crate::records::Shape;
 use crate::records::file_fault;
 use crate::traits::Edge;
@@ -17,11 +18,10 @@ use refusals::Row;
 use std::cell::Cell;
 
 // A file that lists every edge, checked: it describes a graph with these numbers.
-// The seal holds nothing. With a cell among the fields rattle writes the proofs of code over a `Result` of such files.
 #[derive(Drop)]
 pub struct ListedFile<'a> {
     bytes: &'a [u8],
-    seal: Cell<()>,
+    seal: Seal,
     places: usize,
     rows: usize,
     degree: usize,

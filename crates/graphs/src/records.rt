@@ -6,6 +6,11 @@ ghost use Rattle.graphs.specs.Files.{u16-at, width, entry-of, sizes-fit, recor
 use refusals::Fault;
 use refusals::Layer;
 use refusals::Refusal;
+use std::cell::Cell;
+
+// What a checked file holds beside a reference and a ghost field. It holds nothing; with a cell among a struct's fields
+// rattle writes the proofs of code over a `Result` of such structs.
+pub(crate) type Seal = Cell<()>;
 
 // The two forms of graph file.
 #[derive(Clone, Copy)]
