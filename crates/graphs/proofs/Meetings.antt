@@ -1,7 +1,7 @@
 -- The question by row answers the nearest edge. Assumes nothing.
 use mathlib.Core.Path.{_≡_, refl, sym, _∙_, ap, subst}
 use mathlib.Core.Logic.{⊎-elim}
-use mathlib.Core.Bool.{Bool, true, false, _&&_}
+use mathlib.Core.Bool.{_&&_}
 use Prim.Native.Nat.{ℕ, zero, suc, _+_, _-_, _≤_, _<_}
 use native.Mathlib.Omega.{arith}
 use lib.Dec.{eqb, ltb}
@@ -11,8 +11,9 @@ use Rattle.std.specs.Options.{mapped, Cases}
 use Rattle.std.proofs.shelf.Tests.{and-parts, and-from, ltb-true, lt-ltb, eqb-true, eq-eqb, cases-eq}
 use Rattle.std.proofs.shelf.Results.{cases-at-some}
 use Rattle.graphs.specs.declared.traits.Meeting.{Meeting}
-use Rattle.graphs.specs.First.{or-else, first, FirstAt, all-none-first}
-use Rattle.graphs.specs.Models.{GraphModel, HasEdge, when, weight-to, weight-between, meeting, next-meeting, Nearest, NoneFrom, NearestOrNone}
+use Rattle.graphs.specs.First.{some≢none, or-else, first, FirstAt, all-none-first}
+use Rattle.graphs.proofs.Questions.{some-when}
+use Rattle.graphs.specs.Models.{GraphModel, HasEdge, when, weight-to, weight-between, meeting, next-meeting, Nearest, NearestOrNone}
 
 cases-map : {A : Type 0} (o : Option A) {P P′ : Type 0} {Q Q′ : A → Type 0} → (P → P′) → ((a : A) → Q a → Q′ a) → Cases o P Q → Cases o P′ Q′
 cases-map None p q h = p h
@@ -50,25 +51,21 @@ module _ {A : Type 0} (f : ℕ → Option A) where
   first-at k zero = λ i low high. absurd (omega arith)
   first-at k (suc n) = one-more k n (f k) refl (first-at (suc k) n)
 
-some-when : {A : Type 0} (b : Bool) (x a : A) → when b x ≡ Some a → (b ≡ true) × (x ≡ a)
-some-when true x a h = (refl, cc)
-some-when false x a h = let z : _≡_ {A = ℕ} 0 1 = cc in absurd (omega arith)
-
 mapped-none : {A B : Type 0} (f : A → B) (o : Option A) → mapped f o ≡ None → o ≡ None
 mapped-none f None h = refl
-mapped-none f (Some a) h = let z : _≡_ {A = ℕ} 0 1 = cc in absurd (omega arith)
+mapped-none f (Some a) h = absurd (some≢none (f a) h)
 
 mapped-some : {A B : Type 0} (f : A → B) (o : Option A) (b : B) → mapped f o ≡ Some b → (a : A) × (o ≡ Some a) × (f a ≡ b)
-mapped-some f None b h = let z : _≡_ {A = ℕ} 0 1 = cc in absurd (omega arith)
+mapped-some f None b h = absurd (some≢none b (sym h))
 mapped-some f (Some a) b h = (a, refl, cc)
 
 module _ (g : GraphModel) (j : ℕ) where
   found : (i w : ℕ) → weight-between g j i ≡ Some w → HasEdge g i j w
   found i w e =
       let at = cases-at-some _ _ w e (first-at (weight-to g j i) 0 (g .degree)) in
-      let s = some-when (ltb i (g .places) && eqb (g .row i (at .at)) j) (g .weight i (at .at)) w (at .here) in
+      let s = some-when (ltb i (g .places) && eqb (g .row i (at .at)) j) (g .weight i (at .at)) w (sym (at .here)) in
       let t = and-parts (ltb i (g .places)) (eqb (g .row i (at .at)) j) (s .0) in
-      (ltb-true i (g .places) (t .0), (at .at, omega (arith, at .within), eqb-true (g .row i (at .at)) j (t .1), s .1))
+      (ltb-true i (g .places) (t .0), (at .at, omega (arith, at .within), eqb-true (g .row i (at .at)) j (t .1), sym (s .1)))
 
   -- an edge between them shows in the weight
   shown : (i w : ℕ) → weight-between g j i ≡ None → HasEdge g i j w → ⊥
@@ -76,8 +73,7 @@ module _ (g : GraphModel) (j : ℕ) where
       let none = all-none-first (weight-to g j i) 0 (g .degree) e k (omega arith) (omega arith) in
       let t = and-from (ltb i (g .places)) (eqb (g .row i k) j) (lt-ltb i (g .places) hi) (eq-eqb (g .row i k) j er) in
       let some : weight-to g j i k ≡ Some (g .weight i k) = ap (λ b. when b (g .weight i k)) t in
-      let z : _≡_ {A = ℕ} 0 1 = cc in
-      omega arith
+      some≢none (g .weight i k) (sym some ∙ none)
 
   next-nearest : (p : ℕ) → NearestOrNone g j p (next-meeting g j p)
   next-nearest p =

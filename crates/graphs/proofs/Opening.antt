@@ -2,7 +2,7 @@
 use mathlib.Core.Path.{_≡_, subst, sym, _∙_}
 use mathlib.Core.Bool.{true}
 use mathlib.Core.List.{List}
-use Prim.Native.Nat.{ℕ, _+_, _-_, _*_, _^_, _≤_, _<_}
+use Prim.Native.Nat.{ℕ, _+_, _-_, _*_, _≤_, _<_}
 use native.Mathlib.Nat.{mul-le-mul, mul-le-mul-left, le-mul-of-pos-right, mul-pos}
 use native.Mathlib.Omega.{arith}
 use lib.ListN.{length}
@@ -12,8 +12,7 @@ use Rattle.graphs.specs.declared.records.Entry.{Entry}
 use Rattle.graphs.specs.declared.records.Form.{Form}
 use Rattle.graphs.specs.declared.records.Form.the-variants.{Listed, Lift}
 use Rattle.graphs.specs.declared.records.Shape.{Shape}
-use Rattle.graphs.specs.Models.{Sizes}
-use Rattle.graphs.specs.Files.{width, places-of, records-of, sizes-fit, entry-of, entry-fault, record-fault}
+use Rattle.graphs.specs.Files.{width, records-of, sizes-fit, entry-of, entry-fault, record-fault}
 use Rattle.graphs.specs.FileLaws.{sizes-of, factors}
 
 few-bytes : (form : Form) → width form ≤ 8

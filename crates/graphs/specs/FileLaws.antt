@@ -4,7 +4,7 @@ use mathlib.Core.Logic.{_⊎_, inl, inr, ⊎-elim}
 use mathlib.Core.Bool.{Bool, true, false, _&&_, _||_, cond}
 use mathlib.Core.List.{List}
 use Prim.Native.Nat.{ℕ, zero, suc, _+_, _-_, _*_, _/_, _%_, _≤_, _<_}
-use native.Mathlib.Nat.{mul-zero, zero-mul, mul-suc, mul-comm, le-mul-of-pos-right, mod-lt, mod-eq-of-lt, mod-eq-sub-mod, div-add-mod'}
+use native.Mathlib.Nat.{mul-zero, zero-mul, mul-comm, le-mul-of-pos-right, mod-lt, mod-eq-of-lt, mod-eq-sub-mod, div-add-mod'}
 use native.Mathlib.Omega.{arith}
 use lib.Arith.{digits-lt, digits-div, digits-mod}
 use lib.Dec.{eqb, ltb, leb}
@@ -12,19 +12,19 @@ use lib.ListN.{length}
 use Rattle.std.specs.declared.option.Option.{Option}
 use Rattle.std.specs.declared.option.Option.the-variants.{None, Some}
 use Rattle.std.specs.Options.{isSome}
-use Rattle.std.proofs.shelf.Tests.{and-parts, and-from, or-cases, or-left, or-right, leb-true, ltb-true, eqb-true, eqb-false, le-leb, lt-ltb, eq-eqb, ne-eqb, cases-eq, cases-lt}
+use Rattle.std.proofs.shelf.Tests.{true≢false, and-parts, and-from, or-cases, or-left, or-right, leb-true, ltb-true, eqb-true, eqb-false, le-leb, lt-ltb, eq-eqb, ne-eqb, cases-lt}
 use Rattle.std.proofs.shelf.Bits.{div-below, mod-below}
 use Rattle.graphs.specs.declared.records.Entry.{Entry}
 use Rattle.graphs.specs.declared.records.Form.{Form}
 use Rattle.graphs.specs.declared.records.Form.the-variants.{Listed, Lift}
 use Rattle.graphs.specs.declared.records.Shape.{Shape}
-use Rattle.graphs.specs.First.{first, first-all-none, all-none-first}
-use Rattle.graphs.specs.Models.{GraphModel, Sizes, Valid, HasEdge}
-use Rattle.graphs.specs.Files.{width, entry-of, places-of, rows-of, records-of, within, sizes-fit, ascends, in-order, in-range, entry-fault, record-fault, first-fault, file-fault, u16-at, Octets, Below, Describes, row-of, record-of, file-model, FileEdge}
+use Rattle.graphs.specs.First.{some≢none, first-all-none, all-none-first}
+use Rattle.graphs.specs.Models.{Sizes, Valid, HasEdge}
+use Rattle.graphs.specs.Files.{width, entry-of, places-of, rows-of, records-of, within, sizes-fit, ascends, in-order, in-range, entry-fault, record-fault, first-fault, file-fault, Octets, Below, Describes, row-of, record-of, file-model, FileEdge}
 
 pub none-from : {A : Type 0} (o : Option A) → isSome o ≡ false → o ≡ None
 none-from None h = refl
-none-from (Some x) h = let n : _≡_ {A = ℕ} 0 1 = cc in absurd (omega arith)
+none-from (Some x) h = absurd (true≢false h)
 
 within-true : (low high x : ℕ) → within low high x ≡ true → (low ≤ x) × (x ≤ high)
 within-true low high x h =
@@ -75,10 +75,10 @@ pub record Good (s : Shape) (k : ℕ) (before e : Entry) : Type 0 where
   pub weight : 1 ≤ e .weight
 
 three : {A : Type 0} (a b c : Bool) (x y z : A) → cond a (cond b (cond c (Some z) None) (Some y)) (Some x) ≡ None → (a ≡ true) × (b ≡ true) × (c ≡ false)
-three true true true x y z h = let n : _≡_ {A = ℕ} 0 1 = cc in absurd (omega arith)
+three true true true x y z h = absurd (some≢none z h)
 three true true false x y z h = (refl, refl, refl)
-three true false c x y z h = let n : _≡_ {A = ℕ} 0 1 = cc in absurd (omega arith)
-three false b c x y z h = let n : _≡_ {A = ℕ} 0 1 = cc in absurd (omega arith)
+three true false c x y z h = absurd (some≢none y h)
+three false b c x y z h = absurd (some≢none x h)
 
 below-from : (d e : Entry) → ascends d e ≡ true → Below d e
 below-from d e h =
@@ -120,8 +120,8 @@ below-trans a b c p q =
 
 two : {A : Type 0} (a b : Bool) (o : Option A) (x y : A) → cond a (cond b o (Some x)) (Some y) ≡ None → (a ≡ true) × (b ≡ true) × (o ≡ None)
 two true true o x y h = (refl, refl, h)
-two true false o x y h = let n : _≡_ {A = ℕ} 0 1 = cc in absurd (omega arith)
-two false b o x y h = let n : _≡_ {A = ℕ} 0 1 = cc in absurd (omega arith)
+two true false o x y h = absurd (some≢none x h)
+two false b o x y h = absurd (some≢none y h)
 
 module _ (form : Form) (bytes : List ℕ) (s : Shape) where
   abbrev at : ℕ → Entry

@@ -1,11 +1,14 @@
 -- The first answer that a row of questions gives, and what that means. Assumes nothing.
-use mathlib.Core.Path.{_≡_, refl, sym, _∙_, ap, subst}
+use mathlib.Core.Path.{_≡_, refl, _∙_, ap}
 use mathlib.Core.Logic.{⊎-elim}
-use Prim.Native.Nat.{ℕ, zero, suc, _+_, _-_, _≤_, _<_}
+use Prim.Native.Nat.{ℕ, zero, suc, _+_, _≤_, _<_}
 use native.Mathlib.Omega.{arith}
 use Rattle.std.specs.declared.option.Option.{Option}
 use Rattle.std.specs.declared.option.Option.the-variants.{None, Some}
 use Rattle.std.proofs.shelf.Tests.{cases-eq}
+
+pub some≢none : {A : Type 0} (x : A) → Some x ≡ None → ⊥
+some≢none x h = let z : _≡_ {A = ℕ} 0 1 = cc in omega arith
 
 abbrev pub or-else : {A : Type 0} → Option A → Option A → Option A
 or-else None y = y
@@ -16,7 +19,7 @@ abbrev pub first : {A : Type 0} → (ℕ → Option A) → ℕ → ℕ → Optio
 first f k zero = None
 first f k (suc n) = or-else (f k) (first f (suc k) n)
 
--- f answers a at i, and nothing from k up to i
+-- f answers a at some number from k on, among n numbers, and nothing before that
 pub record FirstAt {A : Type 0} (f : ℕ → Option A) (k n : ℕ) (a : A) : Type 0 where
   pub at : ℕ
   pub from : k ≤ at
@@ -34,7 +37,7 @@ module _ {A : Type 0} (f : ℕ → Option A) where
   step : (k n : ℕ) (o : Option A) → f k ≡ o → or-else o (first f (suc k) n) ≡ None → (i : ℕ) → k ≤ i → i < k + suc n → (first f (suc k) n ≡ None → (j : ℕ) → suc k ≤ j → j < suc k + n → f j ≡ None) → f i ≡ None
   step k n None e h i low high rest =
       ⊎-elim (λ same. ap f same ∙ e) (λ other. rest h i (omega arith) (omega arith)) (cases-eq i k)
-  step k n (Some a) e h i low high rest = let z : _≡_ {A = ℕ} 0 1 = cc in absurd (omega arith)
+  step k n (Some a) e h i low high rest = absurd (some≢none a h)
 
   pub all-none-first : (k n : ℕ) → first f k n ≡ None → (i : ℕ) → k ≤ i → i < k + n → f i ≡ None
   all-none-first k zero h i low high = absurd (omega arith)

@@ -1,5 +1,5 @@
 -- The listed file: its faults, the graph that it means, and the edges of that graph. Assumes nothing.
-use mathlib.Core.Path.{_≡_, sym, ap, subst, _∙_}
+use mathlib.Core.Path.{_≡_, sym, ap, subst, transport, _∙_}
 use mathlib.Core.Logic.{_↔_, inl, ⊎-elim}
 use mathlib.Core.Bool.{false}
 use mathlib.Core.List.{List}
@@ -67,46 +67,29 @@ abbrev pub ListedEdges : Type 0
 ListedEdges = (bytes : List ℕ) (n m c : ℕ) → DescribesListed bytes n m c → (i j w : ℕ) → HasEdge (listed-model bytes n m c) i j w ↔ ListedEdge bytes n c i j w
 
 module _ (bytes : List ℕ) (n m c : ℕ) where
+  same-sizes : Sizes (n * 1) (m * 1) c ≡ Sizes n m c
+  same-sizes = λ p. Sizes (mul-one n p) (mul-one m p) c
+
   listed-from : Describes Listed bytes (listed-shape n m c) → DescribesListed bytes n m c
-  listed-from d =
-      let z = d .sizes in
-      record {
-        sizes = record {
-          some-place = omega arith;
-          few-places = omega arith;
-          some-row = omega arith;
-          few-rows = omega arith;
-          some-edge = z .some-edge;
-          few-edges = z .few-edges;
-          enough-rows = omega arith;
-        };
-        long = d .long;
-        place = d .column;
-        ascend = λ i j k hi hj hk. ⊎-elim (λ h. h) (λ h. absurd (omega arith)) (d .ascend i j k hi hj hk);
-        row = d .base;
-        weight = d .weight;
-      }
+  listed-from d = record {
+    sizes = transport same-sizes (d .sizes);
+    long = d .long;
+    place = d .column;
+    ascend = λ i j k hi hj hk. ⊎-elim (λ h. h) (λ h. absurd (omega arith)) (d .ascend i j k hi hj hk);
+    row = d .base;
+    weight = d .weight;
+  }
 
   listed-to : DescribesListed bytes n m c → Describes Listed bytes (listed-shape n m c)
-  listed-to d =
-      let z = d .sizes in
-      record {
-        sizes = record {
-          some-place = omega arith;
-          few-places = omega arith;
-          some-row = omega arith;
-          few-rows = omega arith;
-          some-edge = z .some-edge;
-          few-edges = z .few-edges;
-          enough-rows = omega arith;
-        };
-        long = d .long;
-        column = d .place;
-        ascend = λ i j k hi hj hk. inl (d .ascend i j k hi hj hk);
-        base = d .row;
-        shift = λ k h. omega arith;
-        weight = d .weight;
-      }
+  listed-to d = record {
+    sizes = transport (sym same-sizes) (d .sizes);
+    long = d .long;
+    column = d .place;
+    ascend = λ i j k hi hj hk. inl (d .ascend i j k hi hj hk);
+    base = d .row;
+    shift = λ k h. omega arith;
+    weight = d .weight;
+  }
 
   abbrev as-lift : GraphModel
   as-lift = file-model Listed bytes (listed-shape n m c)
