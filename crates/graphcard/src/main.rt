@@ -14,6 +14,7 @@ use refusals::Row;
 use std::env;
 use std::error::AnyError;
 use std::fs;
+use std::io;
 
 const USAGE: &str =
     "usage: graphcard GROUP.. where a GROUP is: listed FILE n m c, or: lift FILE a b L c";
@@ -47,11 +48,21 @@ impl Kind {
     }
 }
 
+// The number that `word` spells in decimal digits.
+fn number(word: &str) -> Option<usize> {
+    for b in word.bytes() {
+        if !b.is_ascii_digit() {
+            return None;
+        }
+    }
+    word.parse::<usize>().ok()
+}
+
 // The numbers that `words` spell, at most four, or the first word that spells none.
 fn sizes(words: &[String]) -> Result<[usize; 4], &str> {
     let mut all = [0; 4];
     for (i, word) in words.iter().enumerate() {
-        let Ok(size) = word.parse::<usize>() else {
+        let Some(size) = number(word.as_str()) else {
             return Err(word.as_str());
         };
         if i < 4 {
@@ -149,7 +160,16 @@ fn group(rt: &LibcRuntime, words: &[String]) -> Result<usize, AnyError> {
 }
 
 fn cards(rt: &LibcRuntime) -> Result<(), AnyError> {
-    let words: Vec<String> = env::args(rt)?.skip(1).collect(rt.alloc())?;
+    let args = match env::args(rt) {
+        Ok(args) => args,
+        Err(error) => {
+            if error.kind() == io::ErrorKind::InvalidData {
+                return Err("an argument is not UTF-8".into());
+            }
+            return Err(error.into());
+        }
+    };
+    let words: Vec<String> = args.skip(1).collect(rt.alloc())?;
     if words.is_empty() {
         rt.println(USAGE)?;
     }

@@ -11,9 +11,17 @@ use Rattle.std.specs.Options.{mapped, Cases}
 use Rattle.std.proofs.shelf.Tests.{and-parts, and-from, ltb-true, lt-ltb, eqb-true, eq-eqb, cases-eq}
 use Rattle.std.proofs.shelf.Results.{cases-at-some}
 use Rattle.graphs.specs.declared.traits.Meeting.{Meeting}
-use Rattle.graphs.specs.First.{some≢none, or-else, first, FirstAt, all-none-first}
+use Rattle.graphs.specs.First.{some≢none, or-else, first, all-none-first}
 use Rattle.graphs.proofs.Questions.{some-when}
 use Rattle.graphs.specs.Models.{GraphModel, HasEdge, when, weight-to, weight-between, meeting, next-meeting, Nearest, NearestOrNone}
+
+-- f answers a at some number from k on, among n numbers, and nothing before that
+record FirstAt {A : Type 0} (f : ℕ → Option A) (k n : ℕ) (a : A) : Type 0 where
+  at : ℕ
+  from : k ≤ at
+  within : at < k + n
+  here : f at ≡ Some a
+  before : (i : ℕ) → k ≤ i → i < at → f i ≡ None
 
 cases-map : {A : Type 0} (o : Option A) {P P′ : Type 0} {Q Q′ : A → Type 0} → (P → P′) → ((a : A) → Q a → Q′ a) → Cases o P Q → Cases o P′ Q′
 cases-map None p q h = p h

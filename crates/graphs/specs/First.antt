@@ -1,4 +1,4 @@
--- The first answer that a row of questions gives, and what that means. Assumes nothing.
+-- The first answer that a row of questions gives. Assumes nothing.
 use mathlib.Core.Path.{_≡_, refl, _∙_, ap}
 use mathlib.Core.Logic.{⊎-elim}
 use Prim.Native.Nat.{ℕ, zero, suc, _+_, _≤_, _<_}
@@ -18,14 +18,6 @@ or-else (Some x) y = Some x
 abbrev pub first : {A : Type 0} → (ℕ → Option A) → ℕ → ℕ → Option A
 first f k zero = None
 first f k (suc n) = or-else (f k) (first f (suc k) n)
-
--- f answers a at some number from k on, among n numbers, and nothing before that
-pub record FirstAt {A : Type 0} (f : ℕ → Option A) (k n : ℕ) (a : A) : Type 0 where
-  pub at : ℕ
-  pub from : k ≤ at
-  pub within : at < k + n
-  pub here : f at ≡ Some a
-  pub before : (i : ℕ) → k ≤ i → i < at → f i ≡ None
 
 module _ {A : Type 0} (f : ℕ → Option A) where
   pub first-all-none : (k n : ℕ) → ((i : ℕ) → k ≤ i → i < k + n → f i ≡ None) → first f k n ≡ None
