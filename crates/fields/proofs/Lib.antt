@@ -1,0 +1,2 @@
+pub mod Logarithms
+pub mod Products

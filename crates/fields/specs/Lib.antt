@@ -1,0 +1,11 @@
+pub mod Models
+pub mod CodeFields
+pub mod Powers
+pub mod Checked
+pub mod Bits
+pub mod Remainders
+pub mod RemainderLaws
+pub mod Polynomials
+pub mod PolynomialLaws
+pub mod Fields
+pub mod Products
