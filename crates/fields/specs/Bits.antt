@@ -4,7 +4,6 @@ use mathlib.Core.Bool.{Bool, true, false, _&&_, cond, not}
 use Prim.Native.Nat.{ℕ, zero, suc, _<_}
 use native.Mathlib.Omega.{arith}
 use lib.Dec.{eqb, lit≤}
-use Rattle.std.proofs.shelf.Tests.{true≢false}
 use Rattle.fields.specs.declared.elements.Gf2.{Gf2}
 use Rattle.fields.specs.Models.{FieldModel}
 

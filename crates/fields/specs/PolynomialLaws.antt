@@ -1,13 +1,13 @@
 -- The polynomials of degree below 8 are a field. Assumes nothing.
-use mathlib.Core.Path.{_≡_, refl, sym, _∙_, ap, ap₂, subst}
-use mathlib.Core.Bool.{Bool, true, false, _&&_, _||_, cond}
+use mathlib.Core.Path.{_≡_, refl, sym, _∙_, ap, ap₂}
+use mathlib.Core.Bool.{Bool, true, false, _||_, cond}
 use mathlib.Core.Logic.{_⊎_, inl, inr, ⊎-elim}
-use Prim.Native.Nat.{ℕ, zero, suc, _+_, _-_, _*_, _/_, _%_, _^_, _≤_, _<_}
-use native.Mathlib.Nat.{eq-zero-or-pos, add-zero, add-comm, suc-add, zero-add, mul-comm, div-lt-iff-lt-mul, mul-suc, mul-zero, div-add-mod', add-mul, zero-mul, suc-mul}
+use Prim.Native.Nat.{ℕ, zero, suc, _+_, _*_, _/_, _%_, _<_}
+use native.Mathlib.Nat.{eq-zero-or-pos, add-zero, add-comm, suc-add, zero-add, mul-comm, zero-mul, suc-mul}
 use native.Mathlib.Omega.{arith}
 use lib.Bits.{bitXor, xor-comm, xor-assoc, xor-self, xor-zero-r, xor-lt, xor-shr, xor-block}
 use lib.Dec.{eqb, ltb, leb, lit≤}
-use Rattle.std.proofs.shelf.Tests.{cases-lt, lt-ltb, ltb-true, eqb-true, or-cases, leb-true, and-parts, cases-bool}
+use Rattle.std.proofs.shelf.Tests.{ltb-true, eqb-true, or-cases, leb-true}
 use Rattle.fields.specs.CodeFields.{CodeField}
 use Rattle.fields.specs.Checked.{passes, passed}
 use Rattle.fields.specs.Powers.{raised}

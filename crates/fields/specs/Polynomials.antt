@@ -1,5 +1,5 @@
 -- Polynomials over the bits modulo the polynomial of code 285: bit k of a code is the coefficient of power k. Assumes nothing.
-use mathlib.Core.Bool.{Bool, cond}
+use mathlib.Core.Bool.{cond}
 use Prim.Native.Nat.{ℕ, zero, suc, _*_, _/_, _%_}
 use lib.Bits.{bitXor}
 use lib.Dec.{eqb, ltb}

@@ -1,4 +1,3 @@
-ghost use mathlib.Core.Path.{_≡_};
 ghost use Rattle.fields.specs.Bits.{bits};
 use crate::elements::Gf2;
 use crate::traits::DigitField;
