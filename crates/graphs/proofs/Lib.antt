@@ -1,4 +1,3 @@
-pub mod Loops
 pub mod Questions
 pub mod Opening
 pub mod Meetings

@@ -7,7 +7,7 @@ use lib.Dec.{eqb, ltb}
 use Rattle.std.specs.declared.option.Option.the-variants.{None, Some}
 use Rattle.std.proofs.shelf.Tests.{both-ways, and-parts, and-cases, and-left, and-right, eq-eqb, ne-eqb, lt-ltb}
 use Rattle.graphs.specs.declared.traits.Edge.{Edge}
-use Rattle.graphs.specs.First.{some≢none}
+use Rattle.firsts.proofs.Firsts.{some≢none}
 use Rattle.graphs.specs.Models.{GraphModel, when, edge-at, weight-to}
 
 pub some-when : {A : Type 0} (b : Bool) (x a : A) → Some a ≡ when b x → (b ≡ true) × (a ≡ x)

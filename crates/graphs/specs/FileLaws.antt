@@ -11,20 +11,15 @@ use lib.Dec.{eqb, ltb, leb}
 use lib.ListN.{length}
 use Rattle.std.specs.declared.option.Option.{Option}
 use Rattle.std.specs.declared.option.Option.the-variants.{None, Some}
-use Rattle.std.specs.Options.{isSome}
-use Rattle.std.proofs.shelf.Tests.{true≢false, and-parts, and-from, or-cases, or-left, or-right, leb-true, ltb-true, eqb-true, eqb-false, le-leb, lt-ltb, eq-eqb, ne-eqb, cases-lt}
+use Rattle.std.proofs.shelf.Tests.{and-parts, and-from, or-cases, or-left, or-right, leb-true, ltb-true, eqb-true, eqb-false, le-leb, lt-ltb, eq-eqb, ne-eqb, cases-lt}
 use Rattle.std.proofs.shelf.Bits.{div-below, mod-below}
 use Rattle.graphs.specs.declared.records.Entry.{Entry}
 use Rattle.graphs.specs.declared.records.Form.{Form}
 use Rattle.graphs.specs.declared.records.Form.the-variants.{Listed, Lift}
 use Rattle.graphs.specs.declared.records.Shape.{Shape}
-use Rattle.graphs.specs.First.{some≢none, first-all-none, all-none-first}
+use Rattle.firsts.proofs.Firsts.{some≢none, first-all-none, all-none-first}
 use Rattle.graphs.specs.Models.{Sizes, Valid, HasEdge}
 use Rattle.graphs.specs.Files.{width, entry-of, places-of, rows-of, records-of, within, sizes-fit, ascends, in-order, in-range, entry-fault, record-fault, first-fault, file-fault, Octets, Below, Describes, row-of, record-of, file-model, FileEdge}
-
-pub none-from : {A : Type 0} (o : Option A) → isSome o ≡ false → o ≡ None
-none-from None h = refl
-none-from (Some x) h = absurd (true≢false h)
 
 within-true : (low high x : ℕ) → within low high x ≡ true → (low ≤ x) × (x ≤ high)
 within-true low high x h =

@@ -16,7 +16,7 @@ use Rattle.graphs.specs.declared.records.Entry.{Entry}
 use Rattle.graphs.specs.declared.records.Form.{Form}
 use Rattle.graphs.specs.declared.records.Form.the-variants.{Listed, Lift}
 use Rattle.graphs.specs.declared.records.Shape.{Shape}
-use Rattle.graphs.specs.First.{first}
+use Rattle.firsts.specs.First.{first}
 use Rattle.graphs.specs.Models.{GraphModel, Sizes}
 
 -- 16 bits at p, the high byte first

@@ -1,4 +1,3 @@
-pub mod First
 pub mod Models
 pub mod Files
 pub mod FileLaws

@@ -12,7 +12,8 @@ use Rattle.graphs.specs.declared.records.Form.the-variants.{Lift}
 use Rattle.graphs.specs.declared.records.Shape.{Shape}
 use Rattle.graphs.specs.Models.{GraphModel, Valid, HasEdge}
 use Rattle.graphs.specs.Files.{Octets, file-fault, file-model, Describes, FileEdge}
-use Rattle.graphs.specs.FileLaws.{none-from, describes-from, describes-to, valid-file, edge-in-file, edge-of-file}
+use Rattle.firsts.proofs.Firsts.{none-from}
+use Rattle.graphs.specs.FileLaws.{describes-from, describes-to, valid-file, edge-in-file, edge-of-file}
 
 -- a base rows, b base columns, lift size l, degree c
 abbrev pub lift-shape : ℕ → ℕ → ℕ → ℕ → Shape

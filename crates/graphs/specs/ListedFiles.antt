@@ -15,7 +15,8 @@ use Rattle.graphs.specs.declared.records.Form.the-variants.{Listed}
 use Rattle.graphs.specs.declared.records.Shape.{Shape}
 use Rattle.graphs.specs.Models.{GraphModel, Sizes, Valid, HasEdge}
 use Rattle.graphs.specs.Files.{u16-at, Octets, entry-of, record-of, row-of, file-fault, file-model, Describes, FileEdge}
-use Rattle.graphs.specs.FileLaws.{none-from, describes-from, describes-to, valid-file, edge-in-file, edge-of-file}
+use Rattle.firsts.proofs.Firsts.{none-from}
+use Rattle.graphs.specs.FileLaws.{describes-from, describes-to, valid-file, edge-in-file, edge-of-file}
 
 -- n places, m rows, degree c: a lift of size 1
 abbrev pub listed-shape : ℕ → ℕ → ℕ → Shape

@@ -8,7 +8,7 @@ use Rattle.std.specs.declared.option.Option.the-variants.{None, Some}
 use Rattle.std.specs.Options.{mapped, Cases}
 use Rattle.graphs.specs.declared.traits.Edge.{Edge}
 use Rattle.graphs.specs.declared.traits.Meeting.{Meeting}
-use Rattle.graphs.specs.First.{first}
+use Rattle.firsts.specs.First.{first}
 
 -- Places below `places`, rows below `rows`; edge k of place i leads to `row i k` and has the weight `weight i k`.
 pub record GraphModel : Type 0 where

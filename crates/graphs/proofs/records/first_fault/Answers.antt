@@ -2,7 +2,7 @@ use mathlib.Core.Path.{_≡_, sym, ap, _∙_}
 use Prim.Native.Nat.{_-_, _+_}
 use native.Mathlib.Omega.{arith}
 use Rattle.graphs.specs.Files.{records-of, entry-of}
-use Rattle.graphs.proofs.Loops.{first-skip, first-here}
+use Rattle.firsts.proofs.Firsts.{first-skip, first-here}
 use Rattle.graphs.proofs.Opening.{some-record, record-inside, found-at}
 use Rattle.graphs.proofs.records.first_fault.Needs as need
 

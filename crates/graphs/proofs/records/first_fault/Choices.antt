@@ -1,6 +1,6 @@
 use Prim.Native.Nat.{_-_}
 use mathlib.Core.Path.{_≡_}
-use Rattle.graphs.specs.First.{first}
+use Rattle.firsts.specs.First.{first}
 use Rattle.graphs.specs.Files.{entry-of, record-fault, first-fault}
 use Rattle.graphs.proofs.records.first_fault.Given as given
 

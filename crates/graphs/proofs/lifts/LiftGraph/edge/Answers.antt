@@ -8,7 +8,8 @@ use Rattle.graphs.specs.declared.records.Entry.{Entry}
 use Rattle.graphs.specs.declared.records.Form.the-variants.{Lift}
 use Rattle.graphs.specs.declared.records.Shape.{Shape}
 use Rattle.graphs.specs.Files.{records-of, record-of, row-of, entry-of, Describes}
-use Rattle.graphs.specs.FileLaws.{none-from, describes-from, some-lift, few-lift, in-file}
+use Rattle.firsts.proofs.Firsts.{none-from}
+use Rattle.graphs.specs.FileLaws.{describes-from, some-lift, few-lift, in-file}
 use Rattle.graphs.specs.LiftFiles.{lift-shape, valid-lift}
 use Rattle.graphs.proofs.Opening.{record-inside}
 use Rattle.graphs.proofs.lifts.LiftGraph.edge.Needs as need

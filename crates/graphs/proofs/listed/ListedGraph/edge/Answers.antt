@@ -1,7 +1,8 @@
 use Prim.Native.Nat.{_*_, _+_}
 use lib.Arith.{digits-lt}
 use Rattle.graphs.specs.declared.records.Form.the-variants.{Listed}
-use Rattle.graphs.specs.FileLaws.{none-from, describes-from}
+use Rattle.firsts.proofs.Firsts.{none-from}
+use Rattle.graphs.specs.FileLaws.{describes-from}
 use Rattle.graphs.specs.ListedFiles.{listed-shape}
 use Rattle.graphs.proofs.Opening.{record-inside}
 use Rattle.graphs.proofs.listed.ListedGraph.edge.Needs as need

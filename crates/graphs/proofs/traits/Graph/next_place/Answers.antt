@@ -1,6 +1,6 @@
 use mathlib.Core.Path.{sym, _∙_, ap}
 use Rattle.std.specs.Options.{mapped}
-use Rattle.graphs.proofs.Loops.{first-skip, first-here, first-end}
+use Rattle.firsts.proofs.Firsts.{first-skip, first-here, first-end}
 use Rattle.graphs.proofs.Meetings.{nearest}
 use Rattle.graphs.proofs.traits.Graph.next_place.Needs as need
 

@@ -2,7 +2,7 @@ use mathlib.Core.Path.{refl, sym, _∙_}
 use native.Mathlib.Omega.{arith}
 use Rattle.std.proofs.shelf.Tests.{false≢true}
 use Rattle.graphs.specs.Models.{weight-to}
-use Rattle.graphs.proofs.Loops.{first-skip, first-here}
+use Rattle.firsts.proofs.Firsts.{first-skip, first-here}
 use Rattle.graphs.proofs.Questions.{leads, leads-elsewhere, no-edge}
 use Rattle.graphs.proofs.traits.Graph.weight_between.Needs as need
 use Rattle.graphs.proofs.traits.Graph.weight_between.Needs.{in-Some·else-eq, in-rest}

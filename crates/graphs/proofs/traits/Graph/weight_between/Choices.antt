@@ -1,6 +1,6 @@
 use Prim.Native.Nat.{_-_}
 use mathlib.Core.Path.{_≡_}
-use Rattle.graphs.specs.First.{first}
+use Rattle.firsts.specs.First.{first}
 use Rattle.graphs.specs.Models.{weight-to, weight-between}
 use Rattle.graphs.proofs.traits.Graph.weight_between.Given as given
 
