@@ -1,8 +1,8 @@
 -- How many numbers below a bound pass a test. Assumes nothing.
 use mathlib.Core.Path.{_≡_, refl, sym, _∙_, ap, ap₂}
-use mathlib.Core.Bool.{Bool, true, false, cond}
+use mathlib.Core.Bool.{Bool, cond}
 use mathlib.Core.List.{List}
-use Prim.Native.Nat.{ℕ, zero, suc, _+_, _/_, _%_, _^_, _≤_, _<_}
+use Prim.Native.Nat.{ℕ, zero, suc, _+_, _/_, _%_, _^_, _<_}
 use native.Mathlib.Nat.{add-zero, add-suc, pow-suc, add-left-comm}
 use native.Mathlib.Omega.{arith}
 use lib.ListN.{getD}
@@ -18,10 +18,6 @@ pub count-zero : (p : ℕ → Bool) → count 0 p ≡ 0
 unfolding count
 count-zero p = refl
 
-pub count-suc : (n : ℕ) (p : ℕ → Bool) → count (suc n) p ≡ cond (p n) 1 0 + count n p
-unfolding count
-count-suc n p = refl
-
 -- the set digits of the first n words
 abbrev pub ones-below : List ℕ → ℕ → ℕ
 ones-below words zero = 0
@@ -32,15 +28,6 @@ pub count-same : (n : ℕ) (p q : ℕ → Bool) → ((k : ℕ) → k < n → p k
 unfolding count
 count-same zero p q h = refl
 count-same (suc n) p q h = ap₂ (λ b m. one-if b + m) (h n (omega arith)) (count-same n p q (λ k l. h k (omega arith)))
-
-one-if-le : (b : Bool) → one-if b ≤ 1
-one-if-le true = omega arith
-one-if-le false = omega arith
-
-pub count-le : (n : ℕ) (p : ℕ → Bool) → count n p ≤ n
-unfolding count
-count-le zero p = omega arith
-count-le (suc n) p = omega (arith, one-if-le (p n), count-le n p)
 
 -- the numbers below m, and the n numbers from m on, are counted apart
 pub count-add : (m n : ℕ) (p : ℕ → Bool) → count (m + n) p ≡ count m p + count n (λ k. p (m + k))

@@ -17,7 +17,8 @@ use Rattle.std.proofs.shelf.Bits.{one-shl}
 use Rattle.std.proofs.shelf.Lists.{getD-past, getD-set-same, getD-set-other, ext-getD}
 use Rattle.std.proofs.shelf.Tests.{cases-eq, ne-eqb, both-ways, cases-lt}
 use Rattle.std.proofs.shelf.Ways.{tells}
-use Rattle.bitsets.specs.Bits.{bit, member, Words, count, FirstAt, NoneBetween}
+use Rattle.firsts.specs.First.{FirstPass}
+use Rattle.bitsets.specs.Bits.{bit, member, Words, count, NoneBetween}
 use Rattle.bitsets.specs.Sets.{has, MembersBelow512, SameMembersSameSet}
 use Rattle.bitsets.proofs.Words.{bit-none, bit-or, bit-and, bit-one, bit-not, bit-past, bit-shr, same-bits, trailing-below, trailing-at}
 use Rattle.bitsets.proofs.Counts.{count-zero, count-add, count-same, ones-below, ones-count}
@@ -126,15 +127,24 @@ module _ (words : List ℕ) (n : ℕ) (narrow : Words words) where
       let past = λ (l : 64 ≤ n % 64 + zeros). bit-shr (word-of words n) (n % 64) zeros ∙ bit-past 64 (word-of words n) (n % 64 + zeros) whole l in
       (here, ⊎-elim (λ l. l) (λ l. absurd (both-ways (bit rest zeros) (past l) here)) (cases-lt (n % 64 + zeros) 64))
 
-  pub first-in-word : n < 512 → 0 < rest → FirstAt (member words) n (n + zeros)
+  pub first-in-word : n < 512 → 0 < rest → FirstPass (member words) n (512 - n) (n + zeros)
   first-in-word h some =
       let inside = zeros-inside some .1 in
       record {
-        reached = omega arith;
-        below = omega arith;
+        from = omega arith;
+        within = omega arith;
         here = member-near words n zeros inside ∙ zeros-inside some .0;
-        none-before = λ k low high. before-next k low (omega arith) ∙ trailing-below 64 rest (k - n) (omega arith);
+        before = λ k low high. before-next k low (omega arith) ∙ trailing-below 64 rest (k - n) (omega arith);
       }
+
+-- a first member from m on is the first from n on, where none stands between
+pub first-later : (p : ℕ → Bool) (n m j : ℕ) → NoneBetween p n m → n ≤ m → m ≤ 512 → FirstPass p m (512 - m) j → FirstPass p n (512 - n) j
+first-later p n m j none low high first = record {
+  from = omega (arith, first .from);
+  within = omega (arith, first .within);
+  here = first .here;
+  before = λ k lk hk. ⊎-elim (λ less. none k lk less) (λ more. first .before k more hk) (cases-lt k m);
+}
 
 -- c has the words of a and b joined
 module _ (a b c : List ℕ) (la : length a ≡ 8) (lb : length b ≡ 8) (lc : length c ≡ 8) (h : (i : ℕ) → i < 8 → getD c i 0 ≡ bitOr (getD a i 0) (getD b i 0)) where

@@ -1,12 +1,10 @@
 -- Bits of numbers, and the numbers that a list of 64-bit words has as its members. Assumes nothing.
 use mathlib.Core.Path.{_≡_}
-use mathlib.Core.Bool.{Bool, true, false, cond}
+use mathlib.Core.Bool.{Bool, false, cond}
 use mathlib.Core.List.{List}
 use Prim.Native.Nat.{ℕ, zero, suc, _+_, _/_, _%_, _^_, _≤_, _<_}
 use lib.Dec.{eqb}
 use lib.ListN.{getD}
-use Rattle.std.specs.declared.option.Option.{Option}
-use Rattle.std.specs.Options.{Cases}
 
 -- bit k of a number is set
 abbrev pub bit : ℕ → ℕ → Bool
@@ -25,21 +23,6 @@ unfoldable pub count : ℕ → (ℕ → Bool) → ℕ
 count zero p = 0
 count (suc n) p = cond (p n) 1 0 + count n p
 
--- i is the first number at or after n that passes the test, and it is below 512
-pub record FirstAt (p : ℕ → Bool) (n i : ℕ) : Type 0 where
-  pub reached : n ≤ i
-  pub below : i < 512
-  pub here : p i ≡ true
-  pub none-before : (k : ℕ) → n ≤ k → k < i → p k ≡ false
-
 -- no number from n on and below m passes the test
 abbrev pub NoneBetween : (ℕ → Bool) → ℕ → ℕ → Type 0
 NoneBetween p n m = (k : ℕ) → n ≤ k → k < m → p k ≡ false
-
--- no number at or after n passes the test
-abbrev pub NoneFrom : (ℕ → Bool) → ℕ → Type 0
-NoneFrom p n = (k : ℕ) → n ≤ k → p k ≡ false
-
--- the first number at or after n that passes the test, or none where no such number does
-abbrev pub FirstOrNone : (ℕ → Bool) → ℕ → Option ℕ → Type 0
-FirstOrNone p n r = Cases r (NoneFrom p n) (FirstAt p n)

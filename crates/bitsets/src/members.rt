@@ -1,9 +1,10 @@
 ghost use mathlib.Core.Path.{_≡_};
 ghost use mathlib.Core.Bool.{false, not, _&&_, _||_};
-ghost use Prim.Native.Nat.{ℕ, _+_, _*_, _/_, _<_};
+ghost use Prim.Native.Nat.{ℕ, _+_, _-_, _*_, _/_, _<_};
 ghost use lib.Dec.{eqb, ltb};
 ghost use Rattle.std.specs.Options.{Cases};
-ghost use Rattle.bitsets.specs.Bits.{count, FirstAt, FirstOrNone, NoneBetween};
+ghost use Rattle.firsts.specs.First.{first-where, FirstPass};
+ghost use Rattle.bitsets.specs.Bits.{count, NoneBetween};
 ghost use Rattle.bitsets.specs.Sets.{has, MembersBelow512, SameMembersSameSet};
 use crate::sets::BitSet;
 
@@ -75,11 +76,19 @@ impl BitSet {
 
     // The first member at or after `n`.
     pub fn first_from(&self, n: usize) -> Option<usize>
-        ensures { λ r. ⌜ FirstOrNone (has (now (self .entry))) n r ⌝ }
+        ensures { λ r. ⌜ r ≡ first-where (has (now (self .entry))) n (512 - n) ⌝ }
     {
-        if n >= 512 {
-            return None;
+        if n < 512 {
+            self.first_in_words(n)
+        } else {
+            None
         }
+    }
+
+    fn first_in_words(&self, n: usize) -> Option<usize>
+        requires { ⌜ n < 512 ⌝ }
+        ensures { λ r. ⌜ r ≡ first-where (has (now (self .entry))) n (512 - n) ⌝ }
+    {
         if let Some(first) = self.first_in_word(n) {
             return Some(first);
         }
@@ -94,7 +103,7 @@ impl BitSet {
     // The first member at or after `n` among those of the same word.
     fn first_in_word(&self, n: usize) -> Option<usize>
         requires { ⌜ n < 512 ⌝ }
-        ensures { λ r. ⌜ Cases r (NoneBetween (has (now (self .entry))) n (64 * (n / 64 + 1))) (FirstAt (has (now (self .entry))) n) ⌝ }
+        ensures { λ r. ⌜ Cases r (NoneBetween (has (now (self .entry))) n (64 * (n / 64 + 1))) (FirstPass (has (now (self .entry))) n (512 - n)) ⌝ }
     {
         let rest = self.words[n / 64] >> (n % 64);
         if rest == 0 {

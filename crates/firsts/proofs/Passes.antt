@@ -1,12 +1,12 @@
 -- What the first number that passes a test tells, and how a loop comes to it. Assumes nothing.
 use mathlib.Core.Path.{_≡_, refl, sym, ap, subst}
 use mathlib.Core.Bool.{Bool, true, false, cond}
-use Prim.Native.Nat.{ℕ, _+_, _-_, _<_}
+use Prim.Native.Nat.{ℕ, _+_, _-_, _≤_, _<_}
 use Rattle.std.specs.declared.option.Option.{Option}
 use Rattle.std.specs.declared.option.Option.the-variants.{None, Some}
 use Rattle.std.specs.Options.{Cases}
 use Rattle.firsts.specs.First.{first, passing, first-where, FirstAt, FirstPass, NonePass, FirstPassing}
-use Rattle.firsts.proofs.Firsts.{some≢none, cases-map, first-tells, first-only, first-skip, first-here}
+use Rattle.firsts.proofs.Firsts.{some≢none, cases-map, first-tells, first-only, first-skip, first-here, first-end}
 
 -- a number that passes is its own answer, and one that fails has none
 passes : (b : Bool) (k j : ℕ) → cond b (Some k) None ≡ Some j → (b ≡ true) × (k ≡ j)
@@ -45,16 +45,27 @@ module _ (test : ℕ → Bool) where
     }
 
     pub where-tells : Cases (first-where test k n) (NonePass test k n) (FirstPass test k n)
+    unfolding first-where
     where-tells = cases-map (first-where test k n) (λ none i low high. fails (test i) i (none i low high)) from-answer (first-tells (passing test) k n)
 
     pub where-only : (r : Option ℕ) → Cases r (NonePass test k n) (FirstPass test k n) → r ≡ first-where test k n
+    unfolding first-where
     where-only r p = first-only (passing test) k n r (cases-map r (λ none i low high. failed i (none i low high)) to-answer p)
 
+    pub where-within : (j : ℕ) → Some j ≡ first-where test k n → j < k + n
+    where-within j e = subst (λ r. Cases r (NonePass test k n) (FirstPass test k n)) (sym e) where-tells .within
+
     pub where-skip : k < n → test k ≡ false → first-where test k (n - k) ≡ first-where test (k + 1) (n - (k + 1))
+    unfolding first-where
     where-skip h e = first-skip (passing test) k n h (failed k e)
 
     pub where-here : k < n → test k ≡ true → first-where test k (n - k) ≡ Some k
+    unfolding first-where
     where-here h e = first-here (passing test) k n k h (passed k e)
+
+    pub where-end : n ≤ k → first-where test k (n - k) ≡ None
+    unfolding first-where
+    where-end h = first-end (passing test) k n h
 
 pub first-passing : FirstPassing
 first-passing test k n r = (λ e. subst (λ o. Cases o (NonePass test k n) (FirstPass test k n)) (sym e) (where-tells test k n), where-only test k n r)

@@ -37,7 +37,7 @@ abbrev pub passing : (ℕ → Bool) → ℕ → Option ℕ
 passing test k = cond (test k) (Some k) None
 
 -- the first of the n numbers from k on that passes the test
-abbrev pub first-where : (ℕ → Bool) → ℕ → ℕ → Option ℕ
+unfoldable pub first-where : (ℕ → Bool) → ℕ → ℕ → Option ℕ
 first-where test k n = first (passing test) k n
 
 -- j is one of the n numbers from k on, passes the test, and none before it does

@@ -1,13 +1,13 @@
 -- The ranks that a queue holds, one for each place, and what its calls do with them. Assumes nothing.
 use mathlib.Core.Path.{_≡_}
-use mathlib.Core.Bool.{Bool, _&&_, cond}
-use mathlib.Core.List.{List, [], _∷_}
-use Prim.Native.Nat.{ℕ, suc, _≤_, _<_}
+use mathlib.Core.Bool.{Bool, _&&_}
+use mathlib.Core.List.{List}
+use Prim.Native.Nat.{ℕ, _≤_, _<_}
 use lib.Dec.{leb, ltb}
 use lib.ListN.{length, getD}
 use Rattle.std.specs.declared.option.Option.{Option}
-use Rattle.std.specs.declared.option.Option.the-variants.{None, Some}
-use Rattle.std.specs.Options.{Cases}
+use Rattle.std.specs.Options.{mapped, Cases}
+use Rattle.firsts.specs.First.{first-where}
 use Rattle.refusals.specs.declared.numbers.Place.{Place}
 
 -- At most 512 places, each with a rank of at most 16.
@@ -31,14 +31,9 @@ AllZero ranks = (i : ℕ) → getD ranks i 0 ≡ 0
 abbrev pub Picks : List ℕ → Option Place → Type 0
 Picks ranks r = Cases r (AllZero ranks) (λ place. 0 < getD ranks (place .0) 0)
 
--- the first place with a rank above 0 in a list of ranks that begins with place k
-abbrev pub lowest-from : ℕ → List ℕ → Option Place
-lowest-from k [] = None
-lowest-from k (rank ∷ ranks) = cond (ltb 0 rank) (Some (record { 0 = k })) (lowest-from (suc k) ranks)
-
 -- the first place with a rank above 0
 abbrev pub lowest : List ℕ → Option Place
-lowest ranks = lowest-from 0 ranks
+lowest ranks = mapped (λ i. record { 0 = i }) (first-where (λ i. ltb 0 (getD ranks i 0)) 0 (length ranks))
 
 -- The place has a rank above 0, and every lower one has rank 0.
 pub record IsLowest (ranks : List ℕ) (place : Place) : Type 0 where

@@ -2,7 +2,7 @@ ghost use mathlib.Core.Path.{_≡_};
 ghost use mathlib.Core.List.{[]};
 ghost use Prim.Native.Nat.{_≤_, _<_};
 ghost use lib.ListN.{set, replicate};
-ghost use Rattle.bitsets.specs.Bits.{FirstOrNone};
+ghost use Rattle.firsts.specs.First.{first-where};
 ghost use Rattle.bitsets.specs.Sets.{has};
 ghost use Rattle.queues.specs.Ranks.{Picks, LowestOrNone, lowest};
 ghost use Rattle.queues.specs.Lowest.{ranks-of, ranked-of};
@@ -46,7 +46,7 @@ impl LowestQueue {
 
     // The place that the first member of `positive` stands for.
     fn place_of(&self, first: Option<usize>) -> Option<Place>
-        requires { ⌜ FirstOrNone (has (now self .positive)) 0 first ⌝ }
+        requires { ⌜ first ≡ first-where (has (now self .positive)) 0 512 ⌝ }
         ensures picks { λ r. ⌜ Picks (ranks-of (now (self .entry))) r ⌝ }
         ensures value { λ r. ⌜ r ≡ lowest (ranks-of (now (self .entry))) ⌝ }
         ensures cases { λ r. ⌜ LowestOrNone (ranks-of (now (self .entry))) r ⌝ }
