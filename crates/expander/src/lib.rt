@@ -1,3 +1,5 @@
+#![tactic(auto)]
+
 // The mathematics of the sequential repair: words over a graph, votes, sets that expand, and the account of a list of calls,
 // with the theorems about them. Each function carries one theorem in its contract and does nothing.
 pub mod accounts;

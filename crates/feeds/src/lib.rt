@@ -1,3 +1,5 @@
+#![tactic(auto)]
+
 // Feeds, which bring the symbols of a word.
 pub mod byte_feeds;
 pub mod frame_feeds;

@@ -1,3 +1,5 @@
+#![tactic(auto)]
+
 // Finite fields of 2 to 256 elements.
 pub mod bits;
 pub mod elements;

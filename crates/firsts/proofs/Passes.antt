@@ -1,6 +1,6 @@
 -- What the first number that passes a test tells, and how a loop comes to it. Assumes nothing.
 use Rattle.std.proofs.Common.{◌≡◌, ℕ, ◌+◌, ◌-◌, ◌<◌, ◌≤◌, Bool, true, false, cond, Some, None, Option, sym, refl, ap, subst, MatchOption}
-use Rattle.firsts.specs.First.{first, passing, first_where, FirstAt, FirstPass, NonePass, FirstPassing}
+use Rattle.firsts.specs.First.{passing, first_where, FirstAt, FirstPass, NonePass, FirstPassing}
 use Rattle.firsts.proofs.Firsts.{some≢none, cases_map, first_tells, first_only, first_skip, first_here, first_end}
 
 -- a number that passes is its own answer, and one that fails has none

@@ -1,3 +1,5 @@
+#![tactic(auto)]
+
 // The first answer that a row of questions gives, and the first number that passes a test. Checks, searches and picks in
 // the crates above are stated by these two definitions.
 ghost use Rattle.firsts.specs.First.{FirstAnswers, FirstPassing};

@@ -1,3 +1,5 @@
+#![tactic(auto)]
+
 // Prints the card of each graph file that the arguments name: its numbers and, where it is small, its rows.
 ghost use Rattle.std.specs.Prelude.{◌≤◌, length};
 

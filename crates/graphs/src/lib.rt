@@ -1,3 +1,5 @@
+#![tactic(auto)]
+
 // Sparse graphs between places and rows, and the two files that describe one.
 pub mod lifts;
 pub mod listed;

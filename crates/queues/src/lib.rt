@@ -1,3 +1,5 @@
+#![tactic(auto)]
+
 // Queues that hold a rank for each place and pick a place whose rank is above 0.
 pub mod lowest;
 pub mod states;

@@ -1,3 +1,5 @@
+#![tactic(auto)]
+
 // What a call takes and what it answers when it refuses: places, rows and faults.
 pub mod faults;
 pub mod numbers;

@@ -9,6 +9,6 @@ returns-then-a-eq0 c = sym (ap inverse c.if-a-eq0.true ∙ inverse-zero)
 
 pub returns : goal.returns
 returns c =
-    let log = c.logarithm-of.ensures in
-    c.power-of-two.ensures ∙ ap (λ k. power ((255 - k) % 255)) log.value
+    let log = c.logarithm_of.ensures in
+    c.power_of_two.ensures ∙ ap (λ k. power ((255 - k) % 255)) log.value
     ∙ inverse_by_logarithm c.args.a (omega (arith, c.if-a-eq0.false)) c.ranges.a.fits (subst (λ k. k ≤ 255) log.value log.bound)

@@ -8,6 +8,6 @@ returns-then-a-eq0 c = sym (product_of_zero c.args.a c.args.b (⊎_elim inl (λ 
 
 pub returns : goal.returns
 returns c =
-    c.power-of-two.ensures
-    ∙ ap (λ n. power (n % 255)) (ap₂ (λ j k. j + k) c.logarithm-of.ensures.value c.logarithm-of-2.ensures.value)
+    c.power_of_two.ensures
+    ∙ ap (λ n. power (n % 255)) (ap₂ (λ j k. j + k) c.logarithm_of.ensures.value c.logarithm_of-2.ensures.value)
     ∙ product_by_logarithms c.args.a c.args.b (omega (arith, c.if-a-eq0.false)) c.ranges.a.fits (omega (arith, c.if-b-eq0.false)) c.ranges.b.fits

@@ -19,7 +19,7 @@ returns-in-Some c =
 
 pub loop-k-preserved : goal.loop-k-preserved
 loop-k-preserved c =
-    let found = found_at c.args.form c.args.bytes.now c.args.shape c.loop-k.k c.loop-k.before c.entry-entry.result _ c.loop-k.invariant.1 c.entry-entry.ensures c.in-default.ensures in
+    let found = found_at c.args.form c.args.bytes.now c.args.shape c.loop-k.k c.loop-k.before c.entry-entry.result _ c.loop-k.invariant.1 c.entry-entry.ensures c.in_default.ensures in
     let here : c.loop-k.k ≡ c.loop-k.k + 1 - 1 = omega arith in (
       sym (first_skip _ c.loop-k.k (records_of c.args.shape) c.loop-k-test.true found) ∙ c.loop-k.invariant.0,
       c.entry-entry.ensures ∙ ap (entry_of c.args.form c.args.bytes.now) here,

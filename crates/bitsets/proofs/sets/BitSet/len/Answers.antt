@@ -4,11 +4,11 @@ use Rattle.bitsets.proofs.Counts.{ones_below}
 use Rattle.bitsets.proofs.Laws.{ones_members}
 use Rattle.bitsets.proofs.sets.BitSet.len.Goals as goal
 
-pub overflow-cast-total : goal.overflow-cast-total
-overflow-cast-total c = let s = c.args.self.now in let few = ones-le 64 _ (s.narrow c.loop-word.word) in search rules
+pub overflow_cast-total : goal.overflow_cast-total
+overflow_cast-total c = let s = c.args.self.now in let few = ones-le 64 _ (s.narrow c.loop-word.word) in search rules
 
-pub overflow-add-total : goal.overflow-add-total
-overflow-add-total c = let s = c.args.self.now in let few = ones-le 64 _ (s.narrow c.loop-word.word) in search rules
+pub overflow_add-total : goal.overflow_add-total
+overflow_add-total c = let s = c.args.self.now in let few = ones-le 64 _ (s.narrow c.loop-word.word) in search rules
 
 pub loop-word-preserved : goal.loop-word-preserved
 loop-word-preserved c =

@@ -36,7 +36,7 @@ row-row-requires c =
     let some = some_lift Lift g.file.bytes.now (shape_of g) (described g) in
     (some, (few_lift Lift g.file.bytes.now (shape_of g) (described g), mod-lt c.args.place.0 some))
 
-pub overflow-cast-result : goal.overflow-cast-result
-overflow-cast-result c =
+pub overflow_cast-result : goal.overflow_cast-result
+overflow_cast-result c =
     let small = row_small c.args.self.now c.args.place.0 c.args.k c.entry-entry.result c.if-i-self.false c.if-k-self.false c.entry-entry.ensures in
     search rules

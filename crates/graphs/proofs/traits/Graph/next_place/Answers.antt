@@ -6,7 +6,7 @@ use Rattle.graphs.proofs.traits.Graph.next_place.Goals as goal
 
 pub loop-i-preserved : goal.loop-i-preserved
 loop-i-preserved g c =
-    sym (first_skip _ c.loop-i.i _ c.loop-i-test.true (ap (option_map _) (sym c.in-default.ensures)))
+    sym (first_skip _ c.loop-i.i _ c.loop-i-test.true (ap (option_map _) (sym c.in_default.ensures)))
     ∙ c.loop-i.invariant
 
 pub returns-in-Some : goal.returns-in-Some

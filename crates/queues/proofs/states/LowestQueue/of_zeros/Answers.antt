@@ -3,8 +3,8 @@ use Rattle.std.proofs.lemmas.List.{take-replicate}
 use Rattle.queues.proofs.Fronts.{zeros_at}
 use Rattle.queues.proofs.states.LowestQueue.of_zeros.Goals as goal
 
-pub invariant-of-result : goal.invariant-of-result
-invariant-of-result c = (
+pub invariant_of-result : goal.invariant_of-result
+invariant_of-result c = (
   refl,
   (c.requires, ((λ i. omega (arith, zeros_at 512 i)), ((λ i past. zeros_at 512 i), ((λ i. c.empty.ensures i ∙ sym (ap (ltb 0) (zeros_at 512 i))), tt)))),
 )

@@ -5,8 +5,8 @@ use Rattle.queues.proofs.Fronts.{marked_tells, lowest_only}
 use Rattle.queues.specs.Lowest.{ranks_of}
 use Rattle.queues.proofs.states.LowestQueue.place_of.Goals as goal
 
-pub overflow-cast-result : goal.overflow-cast-result
-overflow-cast-result c =
+pub overflow_cast-result : goal.overflow_cast-result
+overflow_cast-result c =
     let small : c.in-Some.i < 512 = where_within (has c.args.self.now.positive) 0 512 c.in-Some.i (sym c.in-Some.is ∙ c.requires) in
     search rules
 
