@@ -1,5 +1,5 @@
 -- What overwrites, changes and errors do to the open rows of a word. Assumes nothing.
-use Rattle.std.specs.Prelude.{◌≡◌, ℕ, ◌+◌, ◌*◌, ◌<◌, ◌≤◌, true, not, List, length, set, nat_eq, slice_set}
+use Rattle.std.specs.Prelude.{◌≡◌, ℕ, ◌+◌, ◌*◌, ◌<◌, ◌≤◌, true, not, List, length, nat_eq, slice_set}
 use Rattle.bitsets.specs.Bits.{count}
 use Rattle.fields.specs.Models.{FieldModel}
 use Rattle.graphs.specs.Models.{GraphModel, Valid}

@@ -3,4 +3,4 @@ use Rattle.feeds.specs.Frames.{frame_code}
 use Rattle.feeds.proofs.frame_feeds.FrameFeed.granted.Goals as goal
 
 pub invariant_of-result : goal.invariant_of-result
-invariant_of-result c = (c.requires, (length-map-range_with_len (frame_code c.args.frame.now) 0 c.args.places, tt))
+invariant_of-result c = record { sound = c.requires; long = length-map-range_with_len (frame_code c.args.frame.now) 0 c.args.places }
