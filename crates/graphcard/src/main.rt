@@ -153,7 +153,7 @@ fn cards(rt: &HostRuntime) -> anyhow::Result<()> {
         Ok(args) => args,
         Err(error) => {
             if error.kind() == io::ErrorKind::InvalidData {
-                return Err(anyhow!("an argument is not UTF-8"));
+                return Err(anyhow!("\"an argument is not UTF-8\""));
             }
             return Err(error.into());
         }
