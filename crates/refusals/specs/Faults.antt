@@ -34,6 +34,10 @@ word_of Line = codes "line"
 word_of Decoder = codes "decoder"
 word_of Window = codes "window"
 
+-- what a layer answers when it refuses
+abbrev pub fault_by : Layer → Refusal → ℕ → Fault
+fault_by l r p = record { refusal = r; layer = l; position = p }
+
 -- refused NUMBER LAYER POSITION
 abbrev pub line_of : Fault → List ℕ
 line_of f = codes "refused " ++ (decimal (number_of f.refusal) ++ (codes " " ++ (word_of f.layer ++ (codes " " ++ decimal f.position))))

@@ -1,5 +1,5 @@
 ghost use Rattle.std.specs.Prelude.{◌≡◌, Some};
-ghost use Rattle.refusals.specs.Faults.{number_of, word_of, line_of};
+ghost use Rattle.refusals.specs.Faults.{number_of, word_of, line_of, fault_by};
 
 use std::fmt;
 
@@ -28,11 +28,11 @@ pub enum Refusal {
     NotDigit = 20,
 }
 
-impl Refusal {
-    pub fn number(self) -> u8
-        ensures { result ≡ number_of self }
-    {
-        self as u8
+impl From<Refusal> for u8 {
+    ghost from_gives = { λ refusal number. number ≡ number_of refusal };
+
+    fn from(refusal: Refusal) -> u8 {
+        refusal as u8
     }
 }
 
@@ -57,6 +57,25 @@ impl Layer {
             Layer::Window => "window",
         }
     }
+
+    // What this layer answers when it refuses.
+    pub fn fault(self, refusal: Refusal, position: usize) -> Fault
+        ensures { result ≡ fault_by self refusal position }
+    {
+        Fault {
+            refusal,
+            layer: self,
+            position,
+        }
+    }
+}
+
+impl fmt::Display for Layer {
+    ghost output = { λ layer. Some (word_of layer) };
+
+    fn fmt<W: fmt::Write>(&self, f: &mut fmt::Formatter<W>) -> fmt::Result {
+        f.write_str(self.word())
+    }
 }
 
 // A refusal with its layer and the position of the first offending record, place or index, or 0.
@@ -71,9 +90,7 @@ impl fmt::Display for Fault {
     ghost output = { λ f. Some (line_of f) };
 
     fn fmt<W: fmt::Write>(&self, f: &mut fmt::Formatter<W>) -> fmt::Result {
-        let number = self.refusal.number();
-        let layer = self.layer.word();
-        let position = self.position;
-        write!(f, "refused {number} {layer} {position}")
+        let number = u8::from(self.refusal);
+        write!(f, "refused {number} {} {}", self.layer, self.position)
     }
 }
