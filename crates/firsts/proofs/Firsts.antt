@@ -1,14 +1,14 @@
--- What the first answer tells, and how a loop comes to it. Assumes nothing.
-use Rattle.std.proofs.Common.{◌≡◌, ℕ, zero, suc, ◌+◌, ◌-◌, ◌<◌, ◌≤◌, false, is_some, Some, None, Option, sym, refl, ap, ◌∙◌, subst, ⊎_elim, add-one, arith, MatchOption}
-use Rattle.std.proofs.lemmas.Bool.{true≢false, cases_eq, cases_order}
+-- What the first answer tells. Assumes nothing.
+use Rattle.std.proofs.Common.{◌≡◌, ℕ, zero, suc, ◌<◌, ◌≤◌, false, is_some, Some, None, Option, sym, refl, ⊎_elim, arith, MatchOption}
+use Rattle.std.proofs.lemmas.Bool.{cases_eq, cases_order}
 use Rattle.firsts.specs.First.{or_else, first, FirstAt, NoAnswer, FirstAnswers}
 
 pub some≢none : {A : Type 0} (x : A) → Some x ≡ None → ⊥
-some≢none x h = let z : ◌≡◌ {A = ℕ} 0 1 = cc in omega arith
+some≢none x h = cc
 
 pub none_from : {A : Type 0} (o : Option A) → is_some o ≡ false → o ≡ None
 none_from None h = refl
-none_from (Some x) h = absurd (true≢false h)
+none_from (Some x) h = cc
 
 pub cases_map : {A : Type 0} (o : Option A) {P P' : Type 0} {Q Q' : A → Type 0} → (P → P') → ((a : A) → Q a → Q' a) → MatchOption o P Q → MatchOption o P' Q'
 cases_map None p q h = p h
@@ -16,7 +16,7 @@ cases_map (Some a) p q h = q a h
 
 module _ {A : Type 0} (f : ℕ → Option A) where
   on_from : (k : ℕ) → f k ≡ None → (i : ℕ) → k ≤ i → (suc k ≤ i → f i ≡ None) → f i ≡ None
-  on_from k e i low later = ⊎_elim (λ same. ap f same ∙ e) (λ other. later (omega arith)) (cases_eq i k)
+  on_from k e i low later = ⊎_elim (λ (same : i ≡ k). cc) (λ other. later (omega arith)) (cases_eq i k)
 
   one_more : (k n : ℕ) (o : Option A) → f k ≡ o → MatchOption (first f (suc k) n) (NoAnswer f (suc k) n) (FirstAt f (suc k) n) → MatchOption (or_else o (first f (suc k) n)) (NoAnswer f k (suc n)) (FirstAt f k (suc n))
   one_more k n None e h =
@@ -46,20 +46,14 @@ module _ {A : Type 0} (f : ℕ → Option A) where
     abbrev Tells : Option A → Type 0
     Tells r = MatchOption r (NoAnswer f k n) (FirstAt f k n)
 
-    -- the same number has the first answer of both
-    same_at : (a b : A) → FirstAt f k n a → FirstAt f k n b → Some a ≡ Some b
-    same_at a b p q =
-        ⊎_elim (λ same. sym p.here ∙ ap f same ∙ q.here)
-        (⊎_elim
-        (λ less. absurd (some≢none a (sym p.here ∙ q.before p.at p.from less)))
-        (λ more. absurd (some≢none b (sym q.here ∙ p.before q.at q.from more))))
-        (cases_order p.at q.at)
-
     only : (r s : Option A) → Tells r → Tells s → r ≡ s
     only None None p q = refl
-    only None (Some b) p q = absurd (some≢none b (sym q.here ∙ p q.at q.from q.within))
-    only (Some a) None p q = absurd (some≢none a (sym p.here ∙ q p.at p.from p.within))
-    only (Some a) (Some b) p q = same_at a b p q
+    only None (Some b) p q = cc (p q.at q.from q.within)
+    only (Some a) None p q = cc (q p.at p.from p.within)
+    only (Some a) (Some b) p q =
+        ⊎_elim (λ (same : p.at ≡ q.at). cc)
+        (⊎_elim (λ (less : p.at < q.at). cc (q.before p.at p.from less)) (λ (more : q.at < p.at). cc (p.before q.at q.from more)))
+        (cases_order p.at q.at)
 
     pub first_only : (r : Option A) → Tells r → r ≡ first f k n
     first_only r p = only r (first f k n) p (first_tells k n)
@@ -68,22 +62,7 @@ module _ {A : Type 0} (f : ℕ → Option A) where
   first_all_none k n h = sym (first_only k n None h)
 
   pub all_none_first : (k n : ℕ) → first f k n ≡ None → NoAnswer f k n
-  all_none_first k n e = subst (λ r. MatchOption r (NoAnswer f k n) (FirstAt f k n)) e (first_tells k n)
-
-  module _ (k n : ℕ) where
-    first_step : k < n → first f k (n - k) ≡ or_else (f k) (first f (k + 1) (n - (k + 1)))
-    first_step h =
-        let more : n - k ≡ suc (n - (k + 1)) = omega arith in
-        ap (first f k) more ∙ ap (λ m. or_else (f k) (first f m (n - (k + 1)))) (sym (add-one k))
-
-    pub first_skip : k < n → f k ≡ None → first f k (n - k) ≡ first f (k + 1) (n - (k + 1))
-    first_skip h e = first_step h ∙ ap (λ o. or_else o (first f (k + 1) (n - (k + 1)))) e
-
-    pub first_here : (a : A) → k < n → f k ≡ Some a → first f k (n - k) ≡ Some a
-    first_here a h e = first_step h ∙ ap (λ o. or_else o (first f (k + 1) (n - (k + 1)))) e
-
-    pub first_end : n ≤ k → first f k (n - k) ≡ None
-    first_end h = let none : n - k ≡ 0 = omega arith in ap (first f k) none
+  all_none_first k n e = rw e at (first_tells k n)
 
 pub first_answers : (A : Type 0) → FirstAnswers A
-first_answers A f k n r = (λ e. subst (λ o. MatchOption o (NoAnswer f k n) (FirstAt f k n)) (sym e) (first_tells f k n), first_only f k n r)
+first_answers A f k n r = (λ e. rw e (first_tells f k n), first_only f k n r)
