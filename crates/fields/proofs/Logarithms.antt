@@ -1,22 +1,30 @@
 -- Products and inverses by logarithms. Assumes nothing.
-use Rattle.std.proofs.Common.{◌≡◌, ℕ, ◌+◌, ◌-◌, ◌*◌, ◌/◌, ◌%◌, ◌<◌, ◌≤◌, ◌⊎◌, sym, ap, ◌∙◌, ap₂, ⊎_elim, div-add-mod', arith}
-use Rattle.fields.specs.Powers.{raised}
-use Rattle.fields.specs.Polynomials.{times, inverse, power, logarithm}
-use Rattle.fields.specs.PolynomialLaws.{zero-times, times_zero, power-logarithm, power-add, power_turns, raised-power}
+use Rattle.std.proofs.Common.{◌≡◌, ℕ, ◌+◌, ◌-◌, ◌*◌, ◌/◌, ◌%◌, ◌<◌, Option, Some, None, MatchOption, sym, ap, ◌∙◌, ap₂, subst, div-add-mod', arith}
+use Rattle.std.specs.Option.{option_zip}
+use Rattle.fields.specs.Polynomials.{times, raised, inverse, power}
+use Rattle.fields.specs.PolynomialLaws.{zero-times, times_zero, power-add, power_turns, raised-power}
 
-power_mod : (n : ℕ) → power (n % 255) ≡ power n
+-- the powers repeat after 255
+pub power_mod : (n : ℕ) → power (n % 255) ≡ power n
 power_mod n = sym (ap power (sym (div-add-mod' n 255)) ∙ power_turns (n / 255) (n % 255))
 
-pub product_of_zero : (a b : ℕ) → (a ≡ 0) ⊎ (b ≡ 0) → times a b ≡ 0
-product_of_zero a b = ⊎_elim (λ z. ap (λ x. times x b) z ∙ zero-times b) (λ z. ap (times a) z ∙ times_zero a)
+-- an exponent of a as a power, which zero alone lacks
+abbrev IsExponent : ℕ → Option ℕ → Type 0
+IsExponent a o = MatchOption o (a ≡ 0) (λ k. (power k ≡ a) × (k < 255))
 
-pub product_by_logarithms : (a b : ℕ) → 0 < a → a < 256 → 0 < b → b < 256 → power ((logarithm a + logarithm b) % 255) ≡ times a b
-product_by_logarithms a b pa ha pb hb =
-    power_mod (logarithm a + logarithm b) ∙ sym (power-add (logarithm a) (logarithm b)) ∙ ap₂ times (power-logarithm a pa ha) (power-logarithm b pb hb)
+-- the product adds exponents, and is zero where one of them is lacking
+both_exponents : (a b : ℕ) (j k : Option ℕ) → IsExponent a j → IsExponent b k
+    → MatchOption (option_zip j k) (times a b ≡ 0) (λ both. times a b ≡ power (both.0 + both.1))
+both_exponents a b None k z q = ap (λ x. times x b) z ∙ zero-times b
+both_exponents a b (Some j) None p z = ap (times a) z ∙ times_zero a
+both_exponents a b (Some j) (Some k) p q = sym (ap₂ times p.0 q.0) ∙ power-add j k
 
-pub inverse_by_logarithm : (a : ℕ) → 0 < a → a < 256 → logarithm a ≤ 255 → power ((255 - logarithm a) % 255) ≡ inverse a
-inverse_by_logarithm a some h small =
-    let k = logarithm a in
+pub product_by_exponents : (a b : ℕ) (j k : Option ℕ) → IsExponent a j → IsExponent b k → (o : Option (ℕ × ℕ)) → o ≡ option_zip j k
+    → MatchOption o (times a b ≡ 0) (λ both. times a b ≡ power (both.0 + both.1))
+product_by_exponents a b j k p q o e =
+    subst (λ x. MatchOption x (times a b ≡ 0) (λ both. times a b ≡ power (both.0 + both.1))) (sym e) (both_exponents a b j k p q)
+
+pub inverse_of_power : (k a : ℕ) → k < 255 → power k ≡ a → power (255 - k) ≡ inverse a
+inverse_of_power k a small p =
     let turns : k * 255 + (255 - k) ≡ 1 * 255 + 254 * k = omega arith in
-    power_mod (255 - k) ∙ sym (power_turns k (255 - k)) ∙ ap power turns ∙ power_turns 1 (254 * k) ∙ sym (raised-power k 254)
-    ∙ ap (λ x. raised times x 254) (power-logarithm a some h)
+    sym (power_turns k (255 - k)) ∙ ap power turns ∙ power_turns 1 (254 * k) ∙ sym (raised-power k 254) ∙ ap (λ x. raised x 254) p

@@ -1,10 +1,9 @@
 -- The product of the field of 256 elements is the only polynomial product. Assumes nothing.
 use Rattle.std.proofs.Common.{◌≡◌, ℕ, zero, suc, ◌<◌, sym, ap, ◌∙◌, ⊎_elim, lit≤}
 use lib.Bits.{xor_self}
-use Rattle.fields.specs.CodeFields.{code_two}
+use Rattle.fields.specs.Elements.{code_two}
 use Rattle.fields.specs.Polynomials.{doubled, times, power, logarithm}
 use Rattle.fields.specs.PolynomialLaws.{codes_256, one-times, zero-times, times_below, times_assoc, plus_times, power-times, power_below, doubled_below, zero_or_power}
-use Rattle.fields.specs.Fields.{coded_256}
 use Rattle.fields.specs.Products.{PolynomialProduct, OneProduct}
 
 field_product : PolynomialProduct times
@@ -38,7 +37,7 @@ module _ (op : ℕ → ℕ → ℕ) (p : PolynomialProduct op) (b : ℕ) (hb : b
 
 pub one_product : OneProduct
 one_product = record {
-  codes = code_two codes_256 coded_256 times (λ a b ha hb. times_below a b ha);
+  codes = code_two _ codes_256 times (λ a b ha hb. times_below a b ha);
   polynomial = field_product;
   only = λ op p a b ha hb. only_product op p b hb a ha;
 }

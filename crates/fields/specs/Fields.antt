@@ -1,37 +1,31 @@
--- The fields of 101 and of 256 elements, by the codes that their elements keep. Assumes nothing.
-use Rattle.std.specs.Prelude.{refl}
-use Rattle.std.proofs.Common.{lit≤}
-use Rattle.fields.specs.declared.elements.Gf101.{Gf101}
-use Rattle.fields.specs.declared.elements.Gf256.{Gf256}
+-- The fields of 2, of 101 and of 256 elements. Assumes nothing.
+use Rattle.fields.specs.declared.bits.Bits.{Bits}
+use Rattle.fields.specs.declared.remainders.Remainders.{Remainders}
+use Rattle.fields.specs.declared.polynomials.Polynomials.{Polynomials}
 use Rattle.fields.specs.Models.{FieldModel}
-use Rattle.fields.specs.CodeFields.{Coded, field_of}
+use Rattle.fields.specs.Elements.{ElementOf, field_of}
+use Rattle.fields.specs.BitLaws.{codes_2}
 use Rattle.fields.specs.RemainderLaws.{codes_101}
 use Rattle.fields.specs.PolynomialLaws.{codes_256}
 
-abbrev pub coded_101 : Coded Gf101 101
-coded_101 = record {
-  some_code = lit≤ tt;
-  code = λ x. x.value;
-  code_below = λ x. x.below;
-  make = λ k h. record { value = k; below = h };
-  code-make = λ k h. refl;
-  make_code = λ x. refl;
-}
+-- the elements of each field
+abbrev pub Gf2 : Type 0
+Gf2 = ElementOf Bits codes_2
 
-abbrev pub coded_256 : Coded Gf256 256
-coded_256 = record {
-  some_code = lit≤ tt;
-  code = λ x. x.value;
-  code_below = λ x. x.below;
-  make = λ k h. record { value = k; below = h };
-  code-make = λ k h. refl;
-  make_code = λ x. refl;
-}
+abbrev pub Gf101 : Type 0
+Gf101 = ElementOf Remainders codes_101
+
+abbrev pub Gf256 : Type 0
+Gf256 = ElementOf Polynomials codes_256
+
+-- the bits, with exclusive or and and
+abbrev pub bits : FieldModel Gf2
+bits = field_of Bits codes_2
 
 -- the remainders modulo 101
 abbrev pub remainders : FieldModel Gf101
-remainders = field_of codes_101 coded_101
+remainders = field_of Remainders codes_101
 
 -- the polynomials over the bits modulo the polynomial of code 285
 abbrev pub polynomials : FieldModel Gf256
-polynomials = field_of codes_256 coded_256
+polynomials = field_of Polynomials codes_256

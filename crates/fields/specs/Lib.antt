@@ -1,8 +1,9 @@
 pub mod Models
 pub mod CodeFields
-pub mod Powers
+pub mod Elements
 pub mod Checked
 pub mod Bits
+pub mod BitLaws
 pub mod Remainders
 pub mod RemainderLaws
 pub mod Polynomials

@@ -1,32 +1,26 @@
 -- The polynomials of degree below 8 are a field. Assumes nothing.
-use Rattle.std.specs.Prelude.{◌≡◌, ℕ, zero, suc, ◌+◌, ◌*◌, ◌/◌, ◌%◌, ◌<◌, Bool, true, false, cond, ◌||◌, ◌⊎◌, ◌==◌, bit_xor, nat_eq, nat_le, nat_lt, refl}
+use Rattle.std.specs.Prelude.{◌≡◌, ℕ, zero, suc, ◌+◌, ◌*◌, ◌/◌, ◌%◌, ◌<◌, Bool, true, false, cond, ◌⊎◌, ◌==◌, bit_xor, nat_lt, refl}
 use Rattle.std.proofs.Common.{sym, ◌∙◌, ap, ap₂, inl, inr, ⊎_elim, eq-zero-or-pos, add-zero, add_comm, suc-add, zero-add, mul_comm, zero-mul, suc-mul, arith, lit≤}
 use Rattle.std.proofs.lemmas.Nat.{xor_comm, xor_lt, xor_shr, xor_block}
 use Rattle.std.specs.Int.Bits.{xor_assoc, xor_self, xor_zero_r}
-use Rattle.std.proofs.lemmas.Bool.{ltb-true, eqb-true, or_cases, leb-true}
 use Rattle.fields.specs.CodeFields.{CodeField}
-use Rattle.fields.specs.Checked.{passes, passed}
-use Rattle.fields.specs.Powers.{raised}
-use Rattle.fields.specs.Polynomials.{plus, negated, double, doubled, multiples, times, inverse, power, doublings, logarithm}
-
--- a rule of the codes, shown by a test of all of them
-pub by_test : (f g : ℕ → ℕ) → passes (λ a. nat_eq (f a) (g a)) 256 ≡ true → (a : ℕ) → a < 256 → f a ≡ g a
-by_test f g t a h = eqb-true (f a) (g a) (passed (λ x. nat_eq (f x) (g x)) 256 t a h)
+use Rattle.fields.specs.Checked.{passes, equal_below, less_below, equal_from_one, less_from_one}
+use Rattle.fields.specs.Polynomials.{plus, negated, double, doubled, multiples, times, raised, inverse, power, doublings, logarithm}
 
 doubles_fit : passes (λ a. nat_lt (double a) 256) 256 ≡ true
 unfolding passes
 doubles_fit = refl
 
 pub double_below : (a : ℕ) → a < 256 → double a < 256
-double_below a h = ltb-true (double a) 256 (passed (λ x. nat_lt (double x) 256) 256 doubles_fit a h)
+double_below = less_below 256 double 256 doubles_fit
 
 -- the doubling rule without a case
-split_test : passes (λ a. nat_eq (double a) (bit_xor (a * 2) (285 * (a / 128)))) 256 ≡ true
+split_test : passes (λ a. double a == bit_xor (a * 2) (285 * (a / 128))) 256 ≡ true
 unfolding passes
 split_test = refl
 
 double_split : (a : ℕ) → a < 256 → double a ≡ bit_xor (a * 2) (285 * (a / 128))
-double_split = by_test double (λ a. bit_xor (a * 2) (285 * (a / 128))) split_test
+double_split = equal_below 256 double (λ a. bit_xor (a * 2) (285 * (a / 128))) split_test
 
 xor_swap : (a b c d : ℕ) → bit_xor (bit_xor a b) (bit_xor c d) ≡ bit_xor (bit_xor a c) (bit_xor b d)
 xor_swap a b c d =
@@ -100,12 +94,12 @@ times_zero a = refl
 pub times_below : (a b : ℕ) → a < 256 → times a b < 256
 times_below a b h = multiples_below 8 a b h
 
-one_times_test : passes (λ b. nat_eq (times 1 b) b) 256 ≡ true
+one_times_test : passes (λ b. times 1 b == b) 256 ≡ true
 unfolding passes multiples
 one_times_test = refl
 
 pub one-times : (b : ℕ) → b < 256 → times 1 b ≡ b
-one-times = by_test (λ b. times 1 b) (λ b. b) one_times_test
+one-times = equal_below 256 (λ b. times 1 b) (λ b. b) one_times_test
 
 pub doubled_below : (n a : ℕ) → a < 256 → doubled n a < 256
 unfolding doubled
@@ -148,14 +142,19 @@ power_turns q k = doubled-add (q * 255) k 1 ∙ doubled_turns q (power k) (power
 pub power-add : (j k : ℕ) → times (power j) (power k) ≡ power (j + k)
 power-add j k = power-times j (power k) (power_below k) ∙ sym (doubled-add j k 1)
 
-logarithm_test : passes (λ a. nat_le a 0 || power (logarithm a) == a) 256 ≡ true
+logarithm_test : passes (λ a. power (logarithm (suc a)) == suc a) 255 ≡ true
 unfolding passes doubled doublings
 logarithm_test = refl
 
 pub power-logarithm : (a : ℕ) → 0 < a → a < 256 → power (logarithm a) ≡ a
-power-logarithm a some h =
-    ⊎_elim (λ z. absurd (omega (arith, leb-true a 0 z))) (eqb-true (power (logarithm a)) a)
-    (or_cases (nat_le a 0) (power (logarithm a) == a) (passed (λ x. nat_le x 0 || power (logarithm x) == x) 256 logarithm_test a h))
+power-logarithm = equal_from_one 255 (λ a. power (logarithm a)) (λ a. a) logarithm_test
+
+exponents_fit : passes (λ a. nat_lt (logarithm (suc a)) 255) 255 ≡ true
+unfolding passes doublings
+exponents_fit = refl
+
+pub logarithm_below : (a : ℕ) → 0 < a → a < 256 → logarithm a < 255
+logarithm_below = less_from_one 255 logarithm 255 exponents_fit
 
 -- every code below 256 is zero or a power
 pub zero_or_power : (a : ℕ) → a < 256 → (a ≡ 0) ⊎ (power (logarithm a) ≡ a)
@@ -187,16 +186,16 @@ pub times-plus : (a b d : ℕ) → a < 256 → b < 256 → d < 256 → times a (
 times-plus a b d ha hb hd =
     times_comm a (plus b d) ha (xor_lt 8 b d hb hd) ∙ plus_times b d a hb hd ∙ ap₂ plus (times_comm b a hb ha) (times_comm d a hd ha)
 
-pub raised-power : (k n : ℕ) → raised times (power k) n ≡ power (n * k)
+pub raised-power : (k n : ℕ) → raised (power k) n ≡ power (n * k)
 unfolding raised doubled
 raised-power k zero = sym (ap power (zero-mul k))
 raised-power k (suc n) =
     ap (times (power k)) (raised-power k n) ∙ power-add k (n * k) ∙ ap power (add_comm k (n * k) ∙ sym (suc-mul n k))
 
-raised_below : (a n : ℕ) → a < 256 → raised times a n < 256
+raised_below : (a n : ℕ) → a < 256 → raised a n < 256
 unfolding raised
 raised_below a zero h = lit≤ tt
-raised_below a (suc n) h = times_below a (raised times a n) h
+raised_below a (suc n) h = times_below a (raised a n) h
 
 pub inverse_below : (a : ℕ) → a < 256 → inverse a < 256
 inverse_below a h = raised_below a 254 h
@@ -205,12 +204,12 @@ pub times-inverse : (a : ℕ) → 0 < a → a < 256 → times a (inverse a) ≡ 
 unfolding raised doubled
 times-inverse a some h =
     let k = logarithm a in
-    ap (λ x. raised times x 255) (sym (power-logarithm a some h)) ∙ raised-power k 255
+    ap (λ x. raised x 255) (sym (power-logarithm a some h)) ∙ raised-power k 255
     ∙ ap power (mul_comm 255 k ∙ sym (add-zero (k * 255))) ∙ power_turns k 0
 
 pub inverse-zero : inverse 0 ≡ 0
 unfolding raised
-inverse-zero = zero-times (raised times 0 253)
+inverse-zero = zero-times (raised 0 253)
 
 abbrev pub codes_256 : CodeField
 codes_256 = record {

@@ -1,6 +1,5 @@
 -- Polynomials over the bits modulo the polynomial of code 285: bit k of a code is the coefficient of power k. Assumes nothing.
 use Rattle.std.specs.Prelude.{ℕ, zero, suc, ◌*◌, ◌/◌, ◌%◌, cond, ◌==◌, bit_xor, nat_lt}
-use Rattle.fields.specs.Powers.{raised}
 
 -- The sum adds the coefficients of each power; every polynomial is its own negation.
 abbrev pub plus : ℕ → ℕ → ℕ
@@ -27,9 +26,14 @@ multiples (suc n) a b = plus (cond (b % 2 == 1) a 0) (multiples n (double a) (b 
 abbrev pub times : ℕ → ℕ → ℕ
 times a b = multiples 8 a b
 
+-- a taken n times as a factor
+unfoldable pub raised : ℕ → ℕ → ℕ
+raised a zero = 1
+raised a (suc n) = times a (raised a n)
+
 -- the elements other than zero form a group of 255 elements, so the inverse is the 254th power
 abbrev pub inverse : ℕ → ℕ
-inverse a = raised times a 254
+inverse a = raised a 254
 
 -- power k of the polynomial of code 2
 abbrev pub power : ℕ → ℕ

@@ -1,8 +1,7 @@
 -- What fixes the product of the field of 256 elements. Assumes nothing.
 use Rattle.std.specs.Prelude.{◌≡◌, ℕ, ◌<◌}
-use Rattle.fields.specs.declared.elements.Gf256.{Gf256}
 use Rattle.fields.specs.Polynomials.{plus, double, times}
-use Rattle.fields.specs.Fields.{polynomials}
+use Rattle.fields.specs.Fields.{Gf256, polynomials}
 
 -- A product on the codes below 256 with code 1 as its one, which is associative and distributes over the sum, and by which
 -- multiplication by code 2 is the doubling rule.

@@ -1,6 +1,5 @@
 -- Sum, negation, product and inverse modulo 101. Assumes nothing.
-use Rattle.std.specs.Prelude.{ℕ, ◌+◌, ◌-◌, ◌*◌, ◌%◌}
-use Rattle.fields.specs.Powers.{raised}
+use Rattle.std.specs.Prelude.{ℕ, ◌+◌, ◌-◌, ◌*◌, ◌%◌, ◌^◌}
 
 abbrev pub plus : ℕ → ℕ → ℕ
 plus a b = (a + b) % 101
@@ -13,4 +12,4 @@ times a b = a * b % 101
 
 -- the remainders other than zero form a group of 100 elements, so the inverse is the 99th power
 abbrev pub inverse : ℕ → ℕ
-inverse a = raised times a 99
+inverse a = a ^ 99 % 101

@@ -1,49 +1,38 @@
-ghost use Rattle.fields.specs.Bits.{bits};
+ghost use Rattle.fields.specs.BitLaws.{codes_2};
 
-use crate::elements::Gf2;
+use crate::codes::Codes;
+use crate::elements::Element;
 use crate::traits::{DigitField, Field};
 
-impl Field for Gf2 {
-    ghost field = { bits };
+// The codes 0 and 1, with exclusive or and and.
+#[derive(Clone, Copy)]
+pub struct Bits;
+
+// An element of the field of 2 elements: a bit.
+pub type Gf2 = Element<Bits>;
+
+// Sum and negation read as those of polynomials do; each arithmetic is written out, so that it can be read whole.
+impl Codes for Bits {
+    ghost codes = { codes_2 };
 
     fn size() -> u16 {
         2
     }
 
-    fn from_code(code: u16) -> Option<Gf2> {
-        if code < 2 {
-            Some(Gf2 { value: code == 1 })
-        } else {
-            None
-        }
+    fn plus(a: u8, b: u8) -> u8 {
+        a ^ b
     }
 
-    fn code(self) -> u16 {
-        u16::from(self.value)
+    fn negated(a: u8) -> u8 {
+        a
     }
 
-    fn zero() -> Gf2 {
-        Gf2 { value: false }
+    fn times(a: u8, b: u8) -> u8 {
+        a & b
     }
 
-    fn plus(self, other: Gf2) -> Gf2 {
-        Gf2 {
-            value: self.value ^ other.value,
-        }
-    }
-
-    fn negated(self) -> Gf2 {
-        self
-    }
-
-    fn times(self, other: Gf2) -> Gf2 {
-        Gf2 {
-            value: self.value & other.value,
-        }
-    }
-
-    fn inverse(self) -> Gf2 {
-        self
+    fn inverse(a: u8) -> u8 {
+        a
     }
 }
 

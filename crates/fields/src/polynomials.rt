@@ -1,11 +1,18 @@
-ghost use Rattle.std.specs.Prelude.{◌≡◌, ◌<◌, ◌≤◌};
-ghost use Rattle.fields.specs.Polynomials.{power, logarithm, times, inverse};
-ghost use Rattle.fields.specs.CodeFields.{element};
-ghost use Rattle.fields.specs.Fields.{coded_256, polynomials};
+ghost use Rattle.std.specs.Prelude.{◌≡◌, ◌<◌, MatchOption};
+ghost use Rattle.fields.specs.Polynomials.{power, times, inverse};
+ghost use Rattle.fields.specs.PolynomialLaws.{codes_256};
 ghost use Rattle.fields.specs.Products.{OneProduct};
 
-use crate::elements::Gf256;
+use crate::codes::Codes;
+use crate::elements::Element;
 use crate::traits::{DigitField, Field};
+
+// The codes below 256, as polynomials over the bits: bit k of a code is the coefficient of power k.
+#[derive(Clone, Copy)]
+pub struct Polynomials;
+
+// An element of the field of 256 elements: a polynomial over the bits.
+pub type Gf256 = Element<Polynomials>;
 
 // The powers of the element 2.
 const POWERS: [u8; 255] = [
@@ -41,83 +48,63 @@ const LOGARITHMS: [u8; 256] = [
     232, 116, 214, 244, 234, 168, 80, 88, 175,
 ];
 
+// The powers of the element 2 repeat after 255.
 fn power_of_two(exponent: usize) -> u8
-    requires { exponent < 255 }
     ensures { result ≡ power exponent }
 {
-    POWERS[exponent]
+    POWERS[exponent % 255]
 }
 
-fn logarithm_of(value: u8) -> usize
-    ensures value { result ≡ logarithm value }
-    ensures bound { result ≤ 255 }
+// The exponent of an element as a power of 2, at most 254; zero is no power.
+fn logarithm_of(a: u8) -> Option<usize>
+    ensures { MatchOption result (a ≡ 0) (λ k. (power k ≡ a) × (k < 255)) }
 {
-    LOGARITHMS[value as usize] as usize
+    if a == 0 {
+        None
+    } else {
+        Some(usize::from(LOGARITHMS[usize::from(a)]))
+    }
 }
 
 fn product(a: u8, b: u8) -> u8
     ensures { result ≡ times a b }
 {
-    if a == 0 || b == 0 {
-        return 0;
+    match logarithm_of(a).zip(logarithm_of(b)) {
+        Some((j, k)) => power_of_two(j + k),
+        None => 0,
     }
-    power_of_two((logarithm_of(a) + logarithm_of(b)) % 255)
 }
 
 fn inverse_of(a: u8) -> u8
     ensures { result ≡ inverse a }
 {
-    if a == 0 {
-        return 0;
-    }
-    power_of_two((255 - logarithm_of(a)) % 255)
-}
-
-impl Gf256 {
-    fn of(value: u8) -> Gf256
-        ensures { result ≡ element coded_256 value }
-    {
-        Gf256 { value }
+    match logarithm_of(a) {
+        Some(k) => power_of_two(255 - k),
+        None => 0,
     }
 }
 
-impl Field for Gf256 {
-    ghost field = { polynomials };
+impl Codes for Polynomials {
+    ghost codes = { codes_256 };
 
     fn size() -> u16 {
         256
     }
 
-    fn from_code(code: u16) -> Option<Gf256> {
-        if code < 256 {
-            Some(Gf256::of(code as u8))
-        } else {
-            None
-        }
+    fn plus(a: u8, b: u8) -> u8 {
+        a ^ b
     }
 
-    fn code(self) -> u16 {
-        self.value as u16
+    fn negated(a: u8) -> u8 {
+        a
     }
 
-    fn zero() -> Gf256 {
-        Gf256::of(0)
+    fn times(a: u8, b: u8) -> u8 {
+        product(a, b)
     }
 
-    fn plus(self, other: Gf256) -> Gf256 {
-        Gf256::of(self.value ^ other.value)
-    }
-
-    fn negated(self) -> Gf256 {
-        Gf256::of(self.value)
-    }
-
-    fn times(self, other: Gf256) -> Gf256 {
-        Gf256::of(product(self.value, other.value))
-    }
-
-    fn inverse(self) -> Gf256 {
-        Gf256::of(inverse_of(self.value))
+    fn inverse(a: u8) -> u8 {
+        inverse_of(a)
     }
 }
 
@@ -130,8 +117,7 @@ impl DigitField for Gf256 {
 }
 
 // The product is multiplication of polynomials: it doubles by the element 2 and distributes, and no other product does.
-pub fn products_are_of_polynomials() -> u8
+#[tactic(auto, using(crate::proofs::Products::one_product))]
+pub fn products_are_of_polynomials()
     ensures { OneProduct }
-{
-    0
-}
+{}

@@ -1,10 +1,17 @@
-ghost use Rattle.std.specs.Prelude.{◌≡◌, ◌<◌};
-ghost use Rattle.fields.specs.CodeFields.{element};
+ghost use Rattle.std.specs.Prelude.{◌≡◌};
 ghost use Rattle.fields.specs.Remainders.{inverse};
-ghost use Rattle.fields.specs.Fields.{coded_101, remainders};
+ghost use Rattle.fields.specs.RemainderLaws.{codes_101};
 
-use crate::elements::Gf101;
-use crate::traits::{DigitField, Field};
+use crate::codes::Codes;
+use crate::elements::Element;
+use crate::traits::DigitField;
+
+// The codes below 101, with arithmetic modulo 101.
+#[derive(Clone, Copy)]
+pub struct Remainders;
+
+// An element of the field of 101 elements: a remainder modulo 101.
+pub type Gf101 = Element<Remainders>;
 
 // The inverse of each remainder.
 const INVERSES: [u8; 101] = [
@@ -15,61 +22,33 @@ const INVERSES: [u8; 101] = [
     25, 67, 50, 100,
 ];
 
-fn inverse_of(value: u8) -> u8
-    requires { value < 101 }
-    ensures value { result ≡ inverse value }
-    ensures bound { result < 101 }
+fn inverse_of(a: u8) -> u8
+    ensures { result ≡ inverse a }
 {
-    INVERSES[value as usize]
+    INVERSES[usize::from(a % 101)]
 }
 
-impl Gf101 {
-    fn of(value: u8) -> Gf101
-        requires { value < 101 }
-        ensures { result ≡ element coded_101 value }
-    {
-        Gf101 { value }
-    }
-}
-
-impl Field for Gf101 {
-    ghost field = { remainders };
+impl Codes for Remainders {
+    ghost codes = { codes_101 };
 
     fn size() -> u16 {
         101
     }
 
-    fn from_code(code: u16) -> Option<Gf101> {
-        if code < 101 {
-            Some(Gf101::of(code as u8))
-        } else {
-            None
-        }
+    fn plus(a: u8, b: u8) -> u8 {
+        ((u16::from(a) + u16::from(b)) % 101) as u8
     }
 
-    fn code(self) -> u16 {
-        self.value as u16
+    fn negated(a: u8) -> u8 {
+        u8::saturating_sub(101, a) % 101
     }
 
-    fn zero() -> Gf101 {
-        Gf101::of(0)
+    fn times(a: u8, b: u8) -> u8 {
+        (u16::from(a) * u16::from(b) % 101) as u8
     }
 
-    fn plus(self, other: Gf101) -> Gf101 {
-        Gf101::of((self.value + other.value) % 101)
-    }
-
-    fn negated(self) -> Gf101 {
-        Gf101::of((101 - self.value) % 101)
-    }
-
-    fn times(self, other: Gf101) -> Gf101 {
-        let product = u16::from(self.value) * u16::from(other.value);
-        Gf101::of((product % 101) as u8)
-    }
-
-    fn inverse(self) -> Gf101 {
-        Gf101::of(inverse_of(self.value))
+    fn inverse(a: u8) -> u8 {
+        inverse_of(a)
     }
 }
 

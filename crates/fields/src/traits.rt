@@ -33,7 +33,7 @@ pub trait Field: Copy {
         ensures { result ≡ field.inverse self };
 }
 
-// A field with a radix: the codes below the radix are digits.
+// A field with a radix: the codes below the radix are digits. Each names its radix; what is the same for all stands here.
 pub trait DigitField: Field {
     ghost radix: { ℕ };
 

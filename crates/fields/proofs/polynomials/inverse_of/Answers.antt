@@ -1,14 +1,11 @@
-use Rattle.std.proofs.Common.{◌-◌, ◌%◌, ◌≤◌, sym, ap, ◌∙◌, subst, arith}
-use Rattle.fields.specs.Polynomials.{inverse, power}
+use Rattle.std.proofs.Common.{sym, ap, ◌∙◌}
+use Rattle.fields.specs.Polynomials.{inverse}
 use Rattle.fields.specs.PolynomialLaws.{inverse-zero}
-use Rattle.fields.proofs.Logarithms.{inverse_by_logarithm}
+use Rattle.fields.proofs.Logarithms.{inverse_of_power}
 use Rattle.fields.proofs.polynomials.inverse_of.Goals as goal
 
-pub returns-then-a-eq0 : goal.returns-then-a-eq0
-returns-then-a-eq0 c = sym (ap inverse c.if-a-eq0.true ∙ inverse-zero)
+pub returns-in-Some : goal.returns-in-Some
+returns-in-Some c = c.power_of_two.ensures ∙ inverse_of_power c.in-Some.k c.args.a c.in-Some.ensures.1 c.in-Some.ensures.0
 
-pub returns : goal.returns
-returns c =
-    let log = c.logarithm_of.ensures in
-    c.power_of_two.ensures ∙ ap (λ k. power ((255 - k) % 255)) log.value
-    ∙ inverse_by_logarithm c.args.a (omega (arith, c.if-a-eq0.false)) c.ranges.a.fits (subst (λ k. k ≤ 255) log.value log.bound)
+pub returns-in-None : goal.returns-in-None
+returns-in-None c = sym (ap inverse c.in-None.ensures ∙ inverse-zero)

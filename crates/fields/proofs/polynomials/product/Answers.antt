@@ -1,13 +1,11 @@
-use Rattle.std.proofs.Common.{◌+◌, ◌%◌, sym, ap, ◌∙◌, ap₂, inl, inr, ⊎_elim, arith}
-use Rattle.fields.specs.Polynomials.{power}
-use Rattle.fields.proofs.Logarithms.{product_of_zero, product_by_logarithms}
+use Rattle.std.proofs.Common.{Some, None, sym, ◌∙◌}
+use Rattle.fields.proofs.Logarithms.{product_by_exponents}
 use Rattle.fields.proofs.polynomials.product.Goals as goal
 
-pub returns-then-a-eq0 : goal.returns-then-a-eq0
-returns-then-a-eq0 c = sym (product_of_zero c.args.a c.args.b (⊎_elim inl (λ w. inr w.1) c.then-a-eq0.either))
-
-pub returns : goal.returns
-returns c =
+pub returns-in-Some : goal.returns-in-Some
+returns-in-Some c =
     c.power_of_two.ensures
-    ∙ ap (λ n. power (n % 255)) (ap₂ (λ j k. j + k) c.logarithm_of.ensures.value c.logarithm_of-2.ensures.value)
-    ∙ product_by_logarithms c.args.a c.args.b (omega (arith, c.if-a-eq0.false)) c.ranges.a.fits (omega (arith, c.if-b-eq0.false)) c.ranges.b.fits
+    ∙ sym (product_by_exponents c.args.a c.args.b _ _ c.logarithm_of.ensures c.logarithm_of-2.ensures (Some (c.in-Some.j, c.in-Some.k)) c.in-Some.ensures)
+
+pub returns-in-None : goal.returns-in-None
+returns-in-None c = sym (product_by_exponents c.args.a c.args.b _ _ c.logarithm_of.ensures c.logarithm_of-2.ensures None c.in-None.ensures)
