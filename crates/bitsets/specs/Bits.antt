@@ -1,9 +1,10 @@
 -- Bits of numbers, and the numbers that a list of 64-bit words has as its members. Assumes nothing.
-use Rattle.std.specs.Prelude.{◌≡◌, ℕ, zero, suc, ◌+◌, ◌/◌, ◌%◌, ◌^◌, ◌<◌, ◌≤◌, Bool, false, cond, List, ◌==◌, slice_index}
+use Rattle.std.specs.Prelude.{ℕ, zero, suc, ◌+◌, ◌/◌, ◌%◌, ◌^◌, ◌<◌, Bool, cond, List, ◌==◌, slice_index}
+use Rattle.std.specs.Int.{bit_at}
 
 -- bit k of a number is set
 abbrev pub bit : ℕ → ℕ → Bool
-bit w k = w / 2 ^ k % 2 == 1
+bit w k = bit_at w k == 1
 
 -- number k is a member: bit k mod 64 of word k div 64 is set, and there is no word past the end
 abbrev pub member : List ℕ → ℕ → Bool
@@ -17,7 +18,3 @@ Words words = (i : ℕ) → slice_index words i < 2 ^ 64
 unfoldable pub count : ℕ → (ℕ → Bool) → ℕ
 count zero p = 0
 count (suc n) p = cond (p n) 1 0 + count n p
-
--- no number from n on and below m passes the test
-abbrev pub NoneBetween : (ℕ → Bool) → ℕ → ℕ → Type 0
-NoneBetween p n m = (k : ℕ) → n ≤ k → k < m → p k ≡ false

@@ -1,23 +1,22 @@
-use Rattle.std.proofs.Common.{◌≡◌, ◌+◌, get_or, sym, ap, ◌∙◌, add-one, arith, rules}
-use lib.Count.{ones, ones-le}
-use Rattle.bitsets.proofs.Counts.{ones_below}
-use Rattle.bitsets.proofs.Laws.{ones_members}
+use Rattle.std.proofs.Common.{◌≡◌, ◌*◌, rules, arith, count_ones, ap, ◌∙◌}
+use Rattle.std.specs.List.{sum_by}
+use Rattle.std.proofs.lemmas.Iterator.{YieldsList-from_map, YieldsList-from_slice}
+use Rattle.std.proofs.lemmas.Iterator.Consumers.{fits_by_from_yields_list, YieldsList-at}
+use Rattle.bitsets.specs.Bits.{count}
+use Rattle.bitsets.specs.Sets.{has}
+use Rattle.bitsets.proofs.Counts.{count_le, ones_members}
 use Rattle.bitsets.proofs.sets.BitSet.len.Goals as goal
 
-pub overflow_cast-total : goal.overflow_cast-total
-overflow_cast-total c = let s = c.args.self.now in let few = ones-le 64 _ (s.narrow c.loop-word.word) in search rules
-
-pub overflow_add-total : goal.overflow_add-total
-overflow_add-total c = let s = c.args.self.now in let few = ones-le 64 _ (s.narrow c.loop-word.word) in search rules
-
-pub loop-word-preserved : goal.loop-word-preserved
-loop-word-preserved c =
+pub sum-requires-clause-fits : goal.sum-requires-clause-fits
+sum-requires-clause-fits c =
     let s = c.args.self.now in
-    let few = ones-le 64 _ (s.narrow c.loop-word.word) in
-    (ap (λ n. n + ones (get_or s.words c.loop-word.word 0)) c.loop-word.invariant.0 ∙ ap (ones_below s.words) (sym (add-one c.loop-word.word)), omega arith)
+    let few = count_le 512 (has s) in
+    fits_by_from_yields_list count_ones s.words c.map.result _
+    (YieldsList-from_map _ count_ones (YieldsList-at c.map.ensures.source (YieldsList-from_slice s.words cc)) c.map.ensures.closure (λ x r q k. search rules))
+    (omega (arith, ones_members s.words s.narrow, ap (λ n. count (64 * n) (has s)) s.eight))
 
 pub returns : goal.returns
 returns c =
     let s = c.args.self.now in
-    let all : c.loop-word.word ≡ 8 = omega arith in
-    c.loop-word.invariant.0 ∙ ap (ones_below s.words) all ∙ ones_members s.words 8 s.narrow
+    let e : c.sum.result ≡ sum_by count_ones s.words = search rules in
+    e ∙ ones_members s.words s.narrow ∙ ap (λ n. count (64 * n) (has s)) s.eight
