@@ -1,5 +1,5 @@
 -- The ranks that a queue holds, one for each place, and what its calls do with them. Assumes nothing.
-use Rattle.std.specs.Prelude.{◌≡◌, ℕ, ◌<◌, ◌≤◌, Bool, ◌&&◌, ltb, List, length, Option, MatchOption, nat_le, nat_lt, slice_index}
+use Rattle.std.specs.Prelude.{◌≡◌, ℕ, ◌<◌, ◌≤◌, Bool, ◌&&◌, List, length, Option, MatchOption, nat_le, nat_lt, slice_index}
 use Rattle.std.specs.Option.{option_map}
 use Rattle.firsts.specs.First.{first_where}
 use Rattle.refusals.specs.declared.numbers.Place.{Place}
@@ -27,7 +27,7 @@ Picks ranks r = MatchOption r (AllZero ranks) (λ place. 0 < slice_index ranks p
 
 -- the first place with a rank above 0
 abbrev pub lowest : List ℕ → Option Place
-lowest ranks = option_map (λ i. record { 0 = i }) (first_where (λ i. ltb 0 (slice_index ranks i)) 0 (length ranks))
+lowest ranks = option_map (λ i. record { 0 = i }) (first_where (λ i. nat_lt 0 (slice_index ranks i)) 0 (length ranks))
 
 -- The place has a rank above 0, and every lower one has rank 0.
 pub record IsLowest (ranks : List ℕ) (place : Place) : Type 0 where

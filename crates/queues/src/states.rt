@@ -4,8 +4,10 @@ ghost use Rattle.bitsets.specs.Sets.{has};
 use bitsets::BitSet;
 
 // The queue that picks the lowest place with a rank above 0. The set `positive` has those places.
+// The facts are ghost fields: a model's values would be any lists, and the law `ranked` of `Queue` holds of every value.
 #[derive(Drop)]
 pub struct LowestQueue {
+    // Room for 512 places at once, as beginning a queue may not fail for want of memory. Only the first `places` count.
     pub(crate) ranks: [u8; 512],
     pub(crate) places: usize,
     pub(crate) positive: BitSet,

@@ -3,7 +3,8 @@ ghost use Rattle.queues.specs.Ranks.{Ranked, Picks, may_begin, may_set};
 
 use refusals::Place;
 
-// A rank from 0 to 16 for each of a number of places. Which place with a rank above 0 is picked is left open.
+// A rank from 0 to 16 for each of a number of places. The rules have a call answered no, which then changes nothing: a `bool`
+// says all of that, and there is no error to name. Which place with a rank above 0 is picked is left open.
 pub trait Queue {
     ghost ranks: { Self → List ℕ };
 
