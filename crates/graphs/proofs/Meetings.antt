@@ -2,10 +2,9 @@
 use Rattle.std.proofs.Common.{◌≡◌, ℕ, ◌-◌, ◌&&◌, eqb, ltb, Some, None, Option, sym, refl, ap, ◌∙◌, subst, arith}
 use Rattle.std.specs.Option.{option_map}
 use Rattle.std.proofs.lemmas.Bool.{and_parts, and_from, ltb-true, lt-ltb, eqb-true, eq-eqb}
-use Rattle.std.proofs.lemmas.Option.{MatchOption-at_some}
+use Rattle.std.proofs.lemmas.Option.{MatchOption-at_some, cond_some}
 use Rattle.graphs.specs.declared.traits.Meeting.{Meeting}
 use Rattle.firsts.proofs.Firsts.{some≢none, cases_map, first_tells, all_none_first}
-use Rattle.graphs.proofs.Questions.{some_when}
 use Rattle.graphs.specs.Models.{GraphModel, HasEdge, when, weight_to, weight_between, meeting, next_meeting, Nearest, NearestOrNone}
 
 mapped_none : {A B : Type 0} (f : A → B) (o : Option A) → option_map f o ≡ None → o ≡ None
@@ -20,9 +19,9 @@ module _ (g : GraphModel) (j : ℕ) where
   pub found : (i w : ℕ) → weight_between g j i ≡ Some w → HasEdge g i j w
   found i w e =
       let at = MatchOption-at_some _ _ w e (first_tells (weight_to g j i) 0 g.degree) in
-      let s = some_when (ltb i g.places && eqb (g.row i at.at) j) (g.weight i at.at) w (sym at.here) in
+      let s = cond_some (ltb i g.places && eqb (g.row i at.at) j) (g.weight i at.at) w at.here in
       let t = and_parts (ltb i g.places) (eqb (g.row i at.at) j) s.0 in
-      (ltb-true i g.places t.0, (at.at, omega (arith, at.within), eqb-true (g.row i at.at) j t.1, sym s.1))
+      (ltb-true i g.places t.0, (at.at, omega (arith, at.within), eqb-true (g.row i at.at) j t.1, s.1))
 
   -- an edge between them shows in the weight
   pub shown : (i w : ℕ) → weight_between g j i ≡ None → HasEdge g i j w → ⊥

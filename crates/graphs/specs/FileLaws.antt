@@ -1,51 +1,32 @@
 -- A file has no fault exactly when it describes a graph, and that graph is lawful. Assumes nothing.
-use Rattle.std.specs.Prelude.{◌≡◌, ℕ, zero, suc, ◌+◌, ◌-◌, ◌*◌, ◌/◌, ◌%◌, ◌<◌, ◌≤◌, Bool, true, false, cond, ◌&&◌, ◌||◌, ◌⊎◌, List, length, Some, None, Option, ◌==◌, ◌≢◌, nat_eq, nat_le, nat_lt, refl}
-use Rattle.std.proofs.Common.{sym, ◌∙◌, ap, subst, inl, inr, ⊎_elim, mul-zero, zero-mul, mul_comm, le-mul_of_pos_right, mod-lt, mod-eq_of_lt, div-add-mod', arith}
+use Rattle.std.specs.Prelude.{◌≡◌, ℕ, zero, suc, ◌+◌, ◌-◌, ◌*◌, ◌/◌, ◌%◌, ◌<◌, ◌≤◌, Bool, true, false, cond, ◌⊎◌, List, length, is_some, Some, None, Option, ◌==◌, ◌≢◌, refl}
+use Rattle.std.proofs.Common.{sym, ◌∙◌, ap, subst, inl, inr, ⊎_elim, mul-zero, zero-mul, mod-lt, mod-eq_of_lt, div-add-mod', arith}
 use Rattle.std.proofs.Math.Nat.{mod-eq-sub-mod}
 use Rattle.std.proofs.Math.Arith.{digits_lt, digits_div, digits_mod}
-use Rattle.std.proofs.lemmas.Bool.{and_parts, and_from, or_cases, or_left, or_right, leb-true, ltb-true, eqb-true, eqb-false, le-leb, lt-ltb, eq-eqb, ne_eqb, cases_lt}
+use Rattle.std.proofs.lemmas.Bool.{eqb-true, eq-eqb, cases_lt}
+use Rattle.std.proofs.lemmas.Bool.Decides.{nat_tests}
 use Rattle.std.proofs.lemmas.Nat.{div_below, mod_below}
 use Rattle.graphs.specs.declared.records.Entry.{Entry}
 use Rattle.graphs.specs.declared.records.Form.{Form}
 use Rattle.graphs.specs.declared.records.Form.TheVariants.{Listed, Lift}
 use Rattle.graphs.specs.declared.records.Shape.{Shape}
-use Rattle.firsts.proofs.Firsts.{some≢none, first_all_none, all_none_first}
+use Rattle.firsts.proofs.Firsts.{none_from, first_all_none, all_none_first}
 use Rattle.graphs.specs.Models.{Sizes, Valid, HasEdge}
-use Rattle.graphs.specs.Files.{width, entry_of, places_of, rows_of, records_of, within, sizes_fit, ascends, in_order, in_range, entry_fault, record_fault, first_fault, file_fault, Octets, Below, Describes, row_of, record_of, file_model, FileEdge}
-
-within_true : (low high x : ℕ) → within low high x ≡ true → (low ≤ x) × (x ≤ high)
-within_true low high x h =
-    let p = and_parts (nat_le low x) (nat_le x high) h in
-    (leb-true low x p.0, leb-true x high p.1)
-
-within_from : (low high x : ℕ) → low ≤ x → x ≤ high → within low high x ≡ true
-within_from low high x a b = and_from (nat_le low x) (nat_le x high) (le-leb low x a) (le-leb x high b)
+use Rattle.graphs.specs.Files.{width, entry_of, places_of, rows_of, records_of, sizes_fit, entry_fault, record_fault, first_fault, file_fault, Octets, Below, Describes, row_of, record_of, file_model, FileEdge}
 
 pub sizes_of : (s : Shape) → sizes_fit s ≡ true → Sizes (places_of s) (rows_of s) s.degree
-sizes_of s h =
-    let a = and_parts (within 1 512 (places_of s) && within 1 512 (rows_of s) && within 1 16 s.degree) (nat_le s.degree (rows_of s)) h in
-    let b = and_parts (within 1 512 (places_of s) && within 1 512 (rows_of s)) (within 1 16 s.degree) a.0 in
-    let c = and_parts (within 1 512 (places_of s)) (within 1 512 (rows_of s)) b.0 in
-    let p = within_true 1 512 (places_of s) c.0 in
-    let r = within_true 1 512 (rows_of s) c.1 in
-    let d = within_true 1 16 s.degree b.1 in
-    record {
-      some_place = p.0;
-      few_places = p.1;
-      some_row = r.0;
-      few_rows = r.1;
-      some_edge = d.0;
-      few_edges = d.1;
-      enough_rows = leb-true s.degree (rows_of s) a.1;
-    }
+sizes_of s h = record {
+  some_place = grind (arith, nat_tests);
+  few_places = grind (arith, nat_tests);
+  some_row = grind (arith, nat_tests);
+  few_rows = grind (arith, nat_tests);
+  some_edge = grind (arith, nat_tests);
+  few_edges = grind (arith, nat_tests);
+  enough_rows = grind (arith, nat_tests);
+}
 
 sizes_from : (s : Shape) → Sizes (places_of s) (rows_of s) s.degree → sizes_fit s ≡ true
-sizes_from s z =
-    and_from _ _
-    (and_from _ _
-    (and_from _ _ (within_from 1 512 (places_of s) z.some_place z.few_places) (within_from 1 512 (rows_of s) z.some_row z.few_rows))
-    (within_from 1 16 s.degree z.some_edge z.few_edges))
-    (le-leb s.degree (rows_of s) z.enough_rows)
+sizes_from s z = grind (arith, nat_tests)
 
 -- each factor of a product that is not 0 is not 0
 pub factors : (a b : ℕ) → 1 ≤ a * b → (1 ≤ a) × (1 ≤ b)
@@ -61,68 +42,37 @@ pub record Good (s : Shape) (k : ℕ) (before e : Entry) : Type 0 where
   pub shift : e.shift < s.lift
   pub weight : 1 ≤ e.weight
 
-three : {A : Type 0} (a b c : Bool) (x y z : A) → cond a (cond b (cond c (Some z) None) (Some y)) (Some x) ≡ None → (a ≡ true) × (b ≡ true) × (c ≡ false)
-three true true true x y z h = absurd (some≢none z h)
-three true true false x y z h = (refl, refl, refl)
-three true false c x y z h = absurd (some≢none y h)
-three false b c x y z h = absurd (some≢none x h)
-
-below_from : (d e : Entry) → ascends d e ≡ true → Below d e
-below_from d e h =
-    ⊎_elim (λ l. inl (ltb-true d.base e.base l))
-    (λ r. let p = and_parts (d.base == e.base) (nat_lt d.shift e.shift) r in inr (eqb-true d.base e.base p.0, ltb-true d.shift e.shift p.1))
-    (or_cases (nat_lt d.base e.base) (d.base == e.base && nat_lt d.shift e.shift) h)
-
-below_to : (d e : Entry) → Below d e → ascends d e ≡ true
-below_to d e =
-    ⊎_elim (λ l. or_left (nat_lt d.base e.base) _ (lt-ltb d.base e.base l))
-    (λ r. or_right (nat_lt d.base e.base) _ (and_from _ _ (eq-eqb d.base e.base r.0) (lt-ltb d.shift e.shift r.1)))
-
 good_from : (s : Shape) (k : ℕ) (before e : Entry) → entry_fault s k before e ≡ None → Good s k before e
-good_from s k before e h =
-    let p = three (in_order s k before e) (in_range s e) (e.weight == 0) _ _ _ h in
-    let o = and_parts (e.column == k / s.degree) (k % s.degree == 0 || ascends before e) p.0 in
-    let r = and_parts (nat_lt e.base s.bases) (nat_lt e.shift s.lift) p.1 in
-    record {
-      column = eqb-true e.column (k / s.degree) o.0;
-      order = ⊎_elim (λ z. inl (eqb-true (k % s.degree) 0 z)) (λ b. inr (below_from before e b)) (or_cases (k % s.degree == 0) (ascends before e) o.1);
-      base = ltb-true e.base s.bases r.0;
-      shift = ltb-true e.shift s.lift r.1;
-      weight = let n = eqb-false e.weight 0 p.2 in omega (arith, n);
-    }
+good_from s k before e h = record {
+  column = grind (arith, nat_tests);
+  order = grind (arith, nat_tests);
+  base = grind (arith, nat_tests);
+  shift = grind (arith, nat_tests);
+  weight = grind (arith, nat_tests);
+}
 
 good_to : (s : Shape) (k : ℕ) (before e : Entry) → Good s k before e → entry_fault s k before e ≡ None
-good_to s k before e g =
-    let o : in_order s k before e ≡ true = and_from _ _ (eq-eqb e.column (k / s.degree) g.column) (⊎_elim (λ z. or_left _ (ascends before e) (eq-eqb (k % s.degree) 0 z)) (λ b. or_right (k % s.degree == 0) _ (below_to before e b)) g.order) in
-    let r : in_range s e ≡ true = and_from _ _ (lt-ltb e.base s.bases g.base) (lt-ltb e.shift s.lift g.shift) in
-    let w : nat_eq e.weight 0 ≡ false = ne_eqb e.weight 0 (λ z. omega (arith, g.weight)) in
-    rw (o, r, w)
+good_to s k before e g = grind (arith, nat_tests)
 
 below_trans : (a b c : Entry) → Below a b → Below b c → Below a c
-below_trans a b c p q =
-    ⊎_elim
-    (λ l. inl (⊎_elim (λ m. omega arith) (λ m. omega arith) q))
-    (λ r. ⊎_elim (λ m. inl (omega arith)) (λ m. inr (r.0 ∙ m.0, omega arith)) q)
-    p
+below_trans a b c p q = grind (arith, nat_tests)
 
 two : {A : Type 0} (a b : Bool) (o : Option A) (x y : A) → cond a (cond b o (Some x)) (Some y) ≡ None → (a ≡ true) × (b ≡ true) × (o ≡ None)
-two true true o x y h = (refl, refl, h)
-two true false o x y h = absurd (some≢none x h)
-two false b o x y h = absurd (some≢none y h)
+two a b o x y h = grind (arith, nat_tests)
 
-module _ (form : Form) (bytes : List ℕ) (s : Shape) where
+module _ (bytes : List ℕ) (s : Shape) where
   abbrev at : ℕ → Entry
-  at k = entry_of form bytes k
+  at k = entry_of s.form bytes k
 
   -- every record is good
   abbrev AllGood : Type 0
   AllGood = (k : ℕ) → k < records_of s → Good s k (at (k - 1)) (at k)
 
-  all_good : first_fault form bytes s ≡ None → AllGood
-  all_good h k lt = good_from s k _ _ (all_none_first (record_fault form bytes s) 0 (records_of s) h k (omega arith) (omega arith))
+  all_good : first_fault bytes s ≡ None → AllGood
+  all_good h k lt = good_from s k _ _ (all_none_first (record_fault bytes s) 0 (records_of s) h k (omega arith) (omega arith))
 
-  none_bad : AllGood → first_fault form bytes s ≡ None
-  none_bad h = first_all_none (record_fault form bytes s) 0 (records_of s) (λ k low high. good_to s k _ _ (h k (omega arith)))
+  none_bad : AllGood → first_fault bytes s ≡ None
+  none_bad h = first_all_none (record_fault bytes s) 0 (records_of s) (λ k low high. good_to s k _ _ (h k (omega arith)))
 
   module _ (some : 1 ≤ s.degree) where
     -- in a column each record but the first stands above the one before it
@@ -145,14 +95,14 @@ module _ (form : Form) (bytes : List ℕ) (s : Shape) where
         below_trans (at (i * s.degree + j)) (at (i * s.degree + (j + suc d))) (at (i * s.degree + (j + suc (suc d)))) (chain h i j d li (omega arith))
         (subst (λ x. Below (at (i * s.degree + (j + suc d))) (at (i * s.degree + x))) e (next h i (j + suc d) li (omega arith)))
 
-  pub describes_from : file_fault form bytes s ≡ None → Describes form bytes s
+  pub describes_from : file_fault bytes s ≡ None → Describes bytes s
   describes_from h =
-      let p = two (sizes_fit s) (length bytes == width form * records_of s) (first_fault form bytes s) _ _ h in
+      let p = two (sizes_fit s) (length bytes == width s.form * records_of s) (first_fault bytes s) _ _ h in
       let z = sizes_of s p.0 in
       let g = all_good p.2 in
       record {
         sizes = z;
-        long = eqb-true (length bytes) (width form * records_of s) p.1;
+        long = eqb-true (length bytes) (width s.form * records_of s) p.1;
         column = λ k l. (g k l).column;
         ascend = λ i j k li lj lk. let e : j + suc (k - suc j) ≡ k = omega arith in subst (λ x. Below (at (i * s.degree + j)) (at (i * s.degree + x))) e (chain z.some_edge g i j (k - suc j) li (omega arith));
         base = λ k l. (g k l).base;
@@ -160,7 +110,7 @@ module _ (form : Form) (bytes : List ℕ) (s : Shape) where
         weight = λ k l. (g k l).weight;
       }
 
-  order_from : Describes form bytes s → (k m : ℕ) → k % s.degree ≡ m → k < records_of s → (m ≡ 0) ⊎ Below (at (k - 1)) (at k)
+  order_from : Describes bytes s → (k m : ℕ) → k % s.degree ≡ m → k < records_of s → (m ≡ 0) ⊎ Below (at (k - 1)) (at k)
   order_from d k zero e l = inl refl
   order_from d k (suc m) e l =
       let some = d.sizes.some_edge in
@@ -170,16 +120,16 @@ module _ (form : Form) (bytes : List ℕ) (s : Shape) where
       let b = d.ascend (k / s.degree) m (suc m) (div_below k s.degree s.columns some l) (omega arith) (omega (arith, mod_below k s.degree some)) in
       inr (subst (λ x. Below (at (k - 1)) (at x)) above (subst (λ x. Below (at x) (at (k / s.degree * s.degree + suc m))) before b))
 
-  pub describes_to : Describes form bytes s → file_fault form bytes s ≡ None
+  pub describes_to : Describes bytes s → file_fault bytes s ≡ None
   describes_to d =
-      let n : first_fault form bytes s ≡ None = none_bad (λ k l. record {
+      let n : first_fault bytes s ≡ None = none_bad (λ k l. record {
         column = d.column k l;
         order = order_from d k (k % s.degree) refl l;
         base = d.base k l;
         shift = d.shift k l;
         weight = d.weight k l;
       }) in
-      rw (sizes_from s d.sizes, eq-eqb (length bytes) (width form * records_of s) d.long) n
+      rw (sizes_from s d.sizes, eq-eqb (length bytes) (width s.form * records_of s) d.long) n
 
 -- a sum of two numbers below l, taken mod l
 turned : (l t x : ℕ) → t < l → x < l → (((t + x) % l ≡ t + x) × (t + x < l)) ⊎ (((t + x) % l ≡ t + x - l) × (l ≤ t + x))
@@ -208,14 +158,9 @@ weight_fits : (form : Form) (bytes : List ℕ) (k : ℕ) → Octets bytes → (e
 weight_fits Listed bytes k o = omega (arith, o (6 * k + 4), o (6 * k + 4 + 1))
 weight_fits Lift bytes k o = omega (arith, o (8 * k + 6), o (8 * k + 6 + 1))
 
-module _ (form : Form) (bytes : List ℕ) (s : Shape) (d : Describes form bytes s) where
-  pub some_lift : 1 ≤ s.lift
+module _ (bytes : List ℕ) (s : Shape) (d : Describes bytes s) where
+  some_lift : 1 ≤ s.lift
   some_lift = (factors s.columns s.lift d.sizes.some_place).1
-
-  pub few_lift : s.lift ≤ 512
-  few_lift =
-      let product = le-mul_of_pos_right s.lift (factors s.columns s.lift d.sizes.some_place).0 in
-      omega (arith, product, mul_comm s.lift s.columns, d.sizes.few_places)
 
   in_column : (i : ℕ) → i < places_of s → i / s.lift < s.columns
   in_column i h = div_below i s.lift s.columns some_lift h
@@ -223,22 +168,22 @@ module _ (form : Form) (bytes : List ℕ) (s : Shape) (d : Describes form bytes 
   pub in_file : (i k : ℕ) → i < places_of s → k < s.degree → record_of s i k < records_of s
   in_file i k hi hk = digits_lt (in_column i hi) hk
 
-  pub valid_file : Octets bytes → Valid (file_model form bytes s)
+  pub valid_file : Octets bytes → Valid (file_model bytes s)
   valid_file o = record {
     sizes = d.sizes;
-    row_below = λ i k hi hk. digits_lt (d.base (record_of s i k) (in_file i k hi hk)) (mod-lt (i % s.lift + (entry_of form bytes (record_of s i k)).shift) some_lift);
-    different = λ i j k hi hj hk. rows_apart s (entry_of form bytes (record_of s i j)) (entry_of form bytes (record_of s i k)) (i % s.lift) (mod-lt i some_lift) (d.shift (record_of s i k) (in_file i k hi hk)) (d.ascend (i / s.lift) j k (in_column i hi) hj hk);
+    row_below = λ i k hi hk. digits_lt (d.base (record_of s i k) (in_file i k hi hk)) (mod-lt (i % s.lift + (entry_of s.form bytes (record_of s i k)).shift) some_lift);
+    different = λ i j k hi hj hk. rows_apart s (entry_of s.form bytes (record_of s i j)) (entry_of s.form bytes (record_of s i k)) (i % s.lift) (mod-lt i some_lift) (d.shift (record_of s i k) (in_file i k hi hk)) (d.ascend (i / s.lift) j k (in_column i hi) hj hk);
     weight_low = λ i k hi hk. d.weight (record_of s i k) (in_file i k hi hk);
-    weight_high = λ i k hi hk. weight_fits form bytes (record_of s i k) o;
+    weight_high = λ i k hi hk. weight_fits s.form bytes (record_of s i k) o;
   }
 
-  pub edge_in_file : (i j w : ℕ) → HasEdge (file_model form bytes s) i j w → FileEdge form bytes s i j w
+  pub edge_in_file : (i j w : ℕ) → HasEdge (file_model bytes s) i j w → FileEdge bytes s i j w
   edge_in_file i j w (hi, (k, hk, er, ew)) =
       let r = record_of s i k in
-      let c : (entry_of form bytes r).column ≡ i / s.lift = d.column r (in_file i k hi hk) ∙ digits_div (i / s.lift) hk in
+      let c : (entry_of s.form bytes r).column ≡ i / s.lift = d.column r (in_file i k hi hk) ∙ digits_div (i / s.lift) hk in
       (r, i % s.lift, in_file i k hi hk, mod-lt i some_lift, ap (λ x. x * s.lift + i % s.lift) c ∙ div-add-mod' i s.lift, er, ew)
 
-  pub edge_of_file : (i j w : ℕ) → FileEdge form bytes s i j w → HasEdge (file_model form bytes s) i j w
+  pub edge_of_file : (i j w : ℕ) → FileEdge bytes s i j w → HasEdge (file_model bytes s) i j w
   edge_of_file i j w (r, t, hr, ht, ei, ej, ew) =
       let c = s.degree in
       let some = d.sizes.some_edge in
@@ -247,5 +192,9 @@ module _ (form : Form) (bytes : List ℕ) (s : Shape) (d : Describes form bytes 
       let rest : i % s.lift ≡ t = ap (λ x. x % s.lift) (sym whole) ∙ digits_mod (r / c) ht in
       let same : record_of s i (r % c) ≡ r = ap (λ x. x * c + r % c) quotient ∙ div-add-mod' r c in (
         subst (λ x. x < places_of s) whole (digits_lt (div_below r c s.columns some hr) ht),
-        (r % c, mod-lt r some, (λ p. row_of s (entry_of form bytes (same p)) (rest p)) ∙ ej, ap (λ x. (entry_of form bytes x).weight) same ∙ ew),
+        (r % c, mod-lt r some, (λ p. row_of s (entry_of s.form bytes (same p)) (rest p)) ∙ ej, ap (λ x. (entry_of s.form bytes x).weight) same ∙ ew),
       )
+
+-- the graph of a file that has no fault is lawful
+pub valid_granted : (bytes : List ℕ) (s : Shape) → Octets bytes → is_some (file_fault bytes s) ≡ false → Valid (file_model bytes s)
+valid_granted bytes s octets sound = valid_file bytes s (describes_from bytes s (none_from _ sound)) octets

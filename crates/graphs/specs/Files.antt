@@ -1,7 +1,8 @@
 -- The two graph files: their records, and which faults are found in them. Assumes nothing.
 use Rattle.std.specs.Prelude.{◌≡◌, ℕ, ◌+◌, ◌-◌, ◌*◌, ◌/◌, ◌%◌, ◌<◌, ◌≤◌, Bool, cond, ◌&&◌, ◌||◌, ◌⊎◌, List, length, Some, None, Option, ◌==◌, nat_le, nat_lt, slice_index}
+use Rattle.refusals.specs.Faults.{fault_by}
+use Rattle.refusals.specs.Numbers.{u16_at}
 use Rattle.refusals.specs.declared.faults.Fault.{Fault}
-use Rattle.refusals.specs.declared.faults.Refusal.{Refusal}
 use Rattle.refusals.specs.declared.faults.Refusal.TheVariants.{SizeOutOfRange, FileLength, RecordOrder, RowOutOfRange, ZeroWeight}
 use Rattle.refusals.specs.declared.faults.Layer.TheVariants.{Shelf}
 use Rattle.graphs.specs.declared.records.Entry.{Entry}
@@ -10,10 +11,6 @@ use Rattle.graphs.specs.declared.records.Form.TheVariants.{Listed, Lift}
 use Rattle.graphs.specs.declared.records.Shape.{Shape}
 use Rattle.firsts.specs.First.{first}
 use Rattle.graphs.specs.Models.{GraphModel, Sizes}
-
--- 16 bits at p, the high byte first
-abbrev pub u16_at : List ℕ → ℕ → ℕ
-u16_at bytes p = slice_index bytes p * 256 + slice_index bytes (p + 1)
 
 -- the bytes of a record
 abbrev pub width : Form → ℕ
@@ -52,24 +49,21 @@ in_order s k before e = e.column == k / s.degree && (k % s.degree == 0 || ascend
 abbrev pub in_range : Shape → Entry → Bool
 in_range s e = nat_lt e.base s.bases && nat_lt e.shift s.lift
 
-abbrev pub shelf_fault : Refusal → ℕ → Fault
-shelf_fault r p = record { refusal = r; layer = Shelf; position = p }
-
 -- what is wrong with record k, in the order of the refusals' numbers
 abbrev pub entry_fault : Shape → ℕ → Entry → Entry → Option Fault
 entry_fault s k before e =
-    cond (in_order s k before e) (cond (in_range s e) (cond (e.weight == 0) (Some (shelf_fault ZeroWeight k)) None) (Some (shelf_fault RowOutOfRange k))) (Some (shelf_fault RecordOrder k))
+    cond (in_order s k before e) (cond (in_range s e) (cond (e.weight == 0) (Some (fault_by Shelf ZeroWeight k)) None) (Some (fault_by Shelf RowOutOfRange k))) (Some (fault_by Shelf RecordOrder k))
 
-abbrev pub record_fault : Form → List ℕ → Shape → ℕ → Option Fault
-record_fault form bytes s k = entry_fault s k (entry_of form bytes (k - 1)) (entry_of form bytes k)
+abbrev pub record_fault : List ℕ → Shape → ℕ → Option Fault
+record_fault bytes s k = entry_fault s k (entry_of s.form bytes (k - 1)) (entry_of s.form bytes k)
 
-abbrev pub first_fault : Form → List ℕ → Shape → Option Fault
-first_fault form bytes s = first (record_fault form bytes s) 0 (records_of s)
+abbrev pub first_fault : List ℕ → Shape → Option Fault
+first_fault bytes s = first (record_fault bytes s) 0 (records_of s)
 
 -- what is wrong with a file: the sizes first, then its length, then the first record that has a fault
-abbrev pub file_fault : Form → List ℕ → Shape → Option Fault
-file_fault form bytes s =
-    cond (sizes_fit s) (cond (length bytes == width form * records_of s) (first_fault form bytes s) (Some (shelf_fault FileLength 0))) (Some (shelf_fault SizeOutOfRange 0))
+abbrev pub file_fault : List ℕ → Shape → Option Fault
+file_fault bytes s =
+    cond (sizes_fit s) (cond (length bytes == width s.form * records_of s) (first_fault bytes s) (Some (fault_by Shelf FileLength 0))) (Some (fault_by Shelf SizeOutOfRange 0))
 
 -- what every slice of bytes holds
 abbrev pub Octets : List ℕ → Type 0
@@ -80,14 +74,14 @@ abbrev pub Below : Entry → Entry → Type 0
 Below d e = (d.base < e.base) ⊎ ((d.base ≡ e.base) × (d.shift < e.shift))
 
 -- A file describes a graph: each column has `degree` records, ascending, with base rows, shifts and weights in their ranges.
-pub record Describes (form : Form) (bytes : List ℕ) (s : Shape) : Type 0 where
+pub record Describes (bytes : List ℕ) (s : Shape) : Type 0 where
   pub sizes : Sizes (places_of s) (rows_of s) s.degree
-  pub long : length bytes ≡ width form * records_of s
-  pub column : (k : ℕ) → k < records_of s → (entry_of form bytes k).column ≡ k / s.degree
-  pub ascend : (i j k : ℕ) → i < s.columns → j < k → k < s.degree → Below (entry_of form bytes (i * s.degree + j)) (entry_of form bytes (i * s.degree + k))
-  pub base : (k : ℕ) → k < records_of s → (entry_of form bytes k).base < s.bases
-  pub shift : (k : ℕ) → k < records_of s → (entry_of form bytes k).shift < s.lift
-  pub weight : (k : ℕ) → k < records_of s → 1 ≤ (entry_of form bytes k).weight
+  pub long : length bytes ≡ width s.form * records_of s
+  pub column : (k : ℕ) → k < records_of s → (entry_of s.form bytes k).column ≡ k / s.degree
+  pub ascend : (i j k : ℕ) → i < s.columns → j < k → k < s.degree → Below (entry_of s.form bytes (i * s.degree + j)) (entry_of s.form bytes (i * s.degree + k))
+  pub base : (k : ℕ) → k < records_of s → (entry_of s.form bytes k).base < s.bases
+  pub shift : (k : ℕ) → k < records_of s → (entry_of s.form bytes k).shift < s.lift
+  pub weight : (k : ℕ) → k < records_of s → 1 ≤ (entry_of s.form bytes k).weight
 
 -- the row that record e gives the place t of its column
 abbrev pub row_of : Shape → Entry → ℕ → ℕ
@@ -98,17 +92,17 @@ abbrev pub record_of : Shape → ℕ → ℕ → ℕ
 record_of s i k = i / s.lift * s.degree + k
 
 -- The graph of a file.
-abbrev pub file_model : Form → List ℕ → Shape → GraphModel
-file_model form bytes s = record {
+abbrev pub file_model : List ℕ → Shape → GraphModel
+file_model bytes s = record {
   places = places_of s;
   rows = rows_of s;
   degree = s.degree;
-  row = λ i k. row_of s (entry_of form bytes (record_of s i k)) (i % s.lift);
-  weight = λ i k. (entry_of form bytes (record_of s i k)).weight;
+  row = λ i k. row_of s (entry_of s.form bytes (record_of s i k)) (i % s.lift);
+  weight = λ i k. (entry_of s.form bytes (record_of s i k)).weight;
 }
 
 -- among the edges that some record means, one for each t below the lift size, one of weight w leads from place i to row j
-abbrev pub FileEdge : Form → List ℕ → Shape → ℕ → ℕ → ℕ → Type 0
-FileEdge form bytes s i j w =
-    (r : ℕ) × (t : ℕ) × (r < records_of s) × (t < s.lift) × ((entry_of form bytes r).column * s.lift + t ≡ i)
-    × (row_of s (entry_of form bytes r) t ≡ j) × ((entry_of form bytes r).weight ≡ w)
+abbrev pub FileEdge : List ℕ → Shape → ℕ → ℕ → ℕ → Type 0
+FileEdge bytes s i j w =
+    (r : ℕ) × (t : ℕ) × (r < records_of s) × (t < s.lift) × ((entry_of s.form bytes r).column * s.lift + t ≡ i)
+    × (row_of s (entry_of s.form bytes r) t ≡ j) × ((entry_of s.form bytes r).weight ≡ w)

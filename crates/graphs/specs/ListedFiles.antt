@@ -1,23 +1,23 @@
 -- The listed file: its faults, the graph that it means, and the edges of that graph. Assumes nothing.
-use Rattle.std.specs.Prelude.{◌≡◌, ℕ, ◌+◌, ◌*◌, ◌/◌, ◌%◌, ◌<◌, ◌≤◌, false, ◌↔◌, List, length, is_some, None, Option}
+use Rattle.std.specs.Prelude.{◌≡◌, ℕ, ◌+◌, ◌*◌, ◌/◌, ◌%◌, ◌<◌, ◌≤◌, ◌↔◌, List, length, None, Option}
 use Rattle.std.proofs.Common.{sym, ap, subst, ◌∙◌, inl, ⊎_elim, mul-one, div-one, arith}
 use Rattle.std.proofs.Math.Path.{transport}
 use Rattle.std.proofs.Math.Nat.{mod-one}
+use Rattle.refusals.specs.Numbers.{u16_at}
 use Rattle.refusals.specs.declared.faults.Fault.{Fault}
 use Rattle.graphs.specs.declared.records.Form.TheVariants.{Listed}
 use Rattle.graphs.specs.declared.records.Shape.{Shape}
-use Rattle.graphs.specs.Models.{GraphModel, Sizes, Valid, HasEdge}
-use Rattle.graphs.specs.Files.{u16_at, Octets, entry_of, record_of, row_of, file_fault, file_model, Describes, FileEdge}
-use Rattle.firsts.proofs.Firsts.{none_from}
-use Rattle.graphs.specs.FileLaws.{describes_from, describes_to, valid_file, edge_in_file, edge_of_file}
+use Rattle.graphs.specs.Models.{GraphModel, Sizes, HasEdge}
+use Rattle.graphs.specs.Files.{entry_of, record_of, row_of, file_fault, file_model, Describes, FileEdge}
+use Rattle.graphs.specs.FileLaws.{describes_from, describes_to, edge_in_file, edge_of_file}
 
 -- n places, m rows, degree c: a lift of size 1
 abbrev pub listed_shape : ℕ → ℕ → ℕ → Shape
-listed_shape n m c = record { bases = m; columns = n; lift = 1; degree = c }
+listed_shape n m c = record { form = Listed; bases = m; columns = n; lift = 1; degree = c }
 
 -- what is wrong with a listed file, if anything
 abbrev pub listed_fault : List ℕ → ℕ → ℕ → ℕ → Option Fault
-listed_fault bytes n m c = file_fault Listed bytes (listed_shape n m c)
+listed_fault bytes n m c = file_fault bytes (listed_shape n m c)
 
 -- the place, the row and the weight of record k
 abbrev pub place_at : List ℕ → ℕ → ℕ
@@ -60,11 +60,15 @@ ListedGranted = (bytes : List ℕ) (n m c : ℕ) → (listed_fault bytes n m c �
 abbrev pub ListedEdges : Type 0
 ListedEdges = (bytes : List ℕ) (n m c : ℕ) → DescribesListed bytes n m c → (i j w : ℕ) → HasEdge (listed_model bytes n m c) i j w ↔ ListedEdge bytes n c i j w
 
+-- and the graph of its shape is the one whose edge k of place i is record i × c + k
+abbrev pub ListedModels : Type 0
+ListedModels = (bytes : List ℕ) (n m c : ℕ) → file_model bytes (listed_shape n m c) ≡ listed_model bytes n m c
+
 module _ (bytes : List ℕ) (n m c : ℕ) where
   same_sizes : Sizes (n * 1) (m * 1) c ≡ Sizes n m c
   same_sizes = λ p. Sizes (mul-one n p) (mul-one m p) c
 
-  listed_from : Describes Listed bytes (listed_shape n m c) → DescribesListed bytes n m c
+  listed_from : Describes bytes (listed_shape n m c) → DescribesListed bytes n m c
   listed_from d = record {
     sizes = transport same_sizes d.sizes;
     long = d.long;
@@ -74,7 +78,7 @@ module _ (bytes : List ℕ) (n m c : ℕ) where
     weight = d.weight;
   }
 
-  listed_to : DescribesListed bytes n m c → Describes Listed bytes (listed_shape n m c)
+  listed_to : DescribesListed bytes n m c → Describes bytes (listed_shape n m c)
   listed_to d = record {
     sizes = transport (sym same_sizes) d.sizes;
     long = d.long;
@@ -86,7 +90,7 @@ module _ (bytes : List ℕ) (n m c : ℕ) where
   }
 
   abbrev as_lift : GraphModel
-  as_lift = file_model Listed bytes (listed_shape n m c)
+  as_lift = file_model bytes (listed_shape n m c)
 
   record_is : (i k : ℕ) → record_of (listed_shape n m c) i k ≡ i * c + k
   record_is i k = ap (λ x. x * c + k) (div-one i)
@@ -105,27 +109,27 @@ module _ (bytes : List ℕ) (n m c : ℕ) where
     weight = λ i k. weight_at bytes (record_is i k p);
   }
 
-  pub valid_listed : Octets bytes → is_some (listed_fault bytes n m c) ≡ false → Valid (listed_model bytes n m c)
-  valid_listed o none = subst Valid same_model (valid_file Listed bytes (listed_shape n m c) (describes_from Listed bytes (listed_shape n m c) (none_from _ none)) o)
-
-  plain : (i j w : ℕ) → FileEdge Listed bytes (listed_shape n m c) i j w → ListedEdge bytes n c i j w
+  plain : (i j w : ℕ) → FileEdge bytes (listed_shape n m c) i j w → ListedEdge bytes n c i j w
   plain i j w (r, t, hr, ht, ei, ej, ew) = (r, hr, omega arith, omega arith, ew)
 
-  lifted : (i j w : ℕ) → ListedEdge bytes n c i j w → FileEdge Listed bytes (listed_shape n m c) i j w
+  lifted : (i j w : ℕ) → ListedEdge bytes n c i j w → FileEdge bytes (listed_shape n m c) i j w
   lifted i j w (r, hr, ei, ej, ew) = (r, 0, hr, omega arith, omega arith, omega arith, ew)
 
   edges_of : DescribesListed bytes n m c → (i j w : ℕ) → HasEdge (listed_model bytes n m c) i j w ↔ ListedEdge bytes n c i j w
   edges_of d i j w =
       let f = listed_to d in (
-        λ h. plain i j w (edge_in_file Listed bytes (listed_shape n m c) f i j w (subst (λ g. HasEdge g i j w) (sym same_model) h)),
-        λ h. subst (λ g. HasEdge g i j w) same_model (edge_of_file Listed bytes (listed_shape n m c) f i j w (lifted i j w h)),
+        λ h. plain i j w (edge_in_file bytes (listed_shape n m c) f i j w (subst (λ g. HasEdge g i j w) (sym same_model) h)),
+        λ h. subst (λ g. HasEdge g i j w) same_model (edge_of_file bytes (listed_shape n m c) f i j w (lifted i j w h)),
       )
 
 pub listed_granted : ListedGranted
 listed_granted bytes n m c = (
-  λ none. listed_from bytes n m c (describes_from Listed bytes (listed_shape n m c) none),
-  λ d. describes_to Listed bytes (listed_shape n m c) (listed_to bytes n m c d),
+  λ none. listed_from bytes n m c (describes_from bytes (listed_shape n m c) none),
+  λ d. describes_to bytes (listed_shape n m c) (listed_to bytes n m c d),
 )
 
 pub listed_edges : ListedEdges
 listed_edges bytes n m c d = edges_of bytes n m c d
+
+pub listed_models : ListedModels
+listed_models = same_model

@@ -1,13 +1,12 @@
 #![tactic(auto)]
 
 // Sparse graphs between places and rows, and the two files that describe one.
-pub mod lifts;
-pub mod listed;
+pub mod files;
 mod records;
 pub mod traits;
 
-pub use lifts::{Lift, LiftFile};
-pub use listed::{Listed, ListedFile};
+pub use files::{FileGraph, GraphFile};
+pub use records::Shape;
 pub use traits::{Edge, Graph, Meeting};
 
 #[cfg(test)]

@@ -1,12 +1,11 @@
-ghost use Rattle.std.specs.Prelude.{◌≡◌, ◌+◌, ◌*◌, ◌%◌, ◌<◌, ◌≤◌, true, length};
-ghost use Rattle.graphs.specs.Files.{u16_at, width, entry_of, sizes_fit, records_of, in_order, ascends, in_range, entry_fault, shelf_fault, first_fault, file_fault};
+ghost use Rattle.std.specs.Prelude.{◌≡◌, ◌+◌, ◌*◌, ◌%◌, ◌<◌, ◌≤◌, length};
+ghost use Rattle.std.specs.Result.{result_err};
+ghost use Rattle.refusals.specs.Numbers.{u16_at};
+ghost use Rattle.graphs.specs.Files.{width, entry_of, row_of, sizes_fit, records_of, in_order, ascends, in_range, record_fault, file_fault};
+ghost use Rattle.graphs.specs.ListedFiles.{listed_shape};
+ghost use Rattle.graphs.specs.LiftFiles.{lift_shape};
 
 use refusals::{Fault, Layer, Refusal};
-use std::cell::Cell;
-
-// What a checked file holds beside a reference and a ghost field. It holds nothing; with a cell among a struct's fields
-// rattle writes the proofs of code over a `Result` of such structs.
-pub(crate) type Seal = Cell<()>;
 
 // The two forms of graph file.
 #[derive(Clone, Copy)]
@@ -15,13 +14,14 @@ pub enum Form {
     Lift,
 }
 
-// The numbers that a graph file is opened with. A listed file is a lift of size 1.
+// The form of a graph file's records, and the numbers that it is opened with.
 #[derive(Clone, Copy)]
 pub struct Shape {
-    pub bases: usize,
-    pub columns: usize,
-    pub lift: usize,
-    pub degree: usize,
+    pub(crate) form: Form,
+    pub(crate) bases: usize,
+    pub(crate) columns: usize,
+    pub(crate) lift: usize,
+    pub(crate) degree: usize,
 }
 
 // One record of a graph file.
@@ -33,6 +33,7 @@ pub struct Entry {
     pub weight: u16,
 }
 
+// The two forms of record differ in width, so a number is read at its offset and not from an array of the record's bytes.
 fn read_u16(bytes: &[u8], at: usize) -> u16
     requires { at + 1 < length bytes.now }
     ensures { result ≡ u16_at bytes.now at }
@@ -42,7 +43,7 @@ fn read_u16(bytes: &[u8], at: usize) -> u16
 
 impl Form {
     // The bytes of a record.
-    pub(crate) fn width(self) -> usize
+    fn width(self) -> usize
         ensures { result ≡ width self }
     {
         match self {
@@ -56,55 +57,67 @@ impl Form {
         requires { width self * (k + 1) ≤ length bytes.now }
         ensures { result ≡ entry_of self bytes.now k }
     {
-        match self {
-            Form::Listed => Entry {
-                column: read_u16(bytes, 6 * k),
-                base: read_u16(bytes, 6 * k + 2),
-                shift: 0,
-                weight: read_u16(bytes, 6 * k + 4),
-            },
-            Form::Lift => Entry {
-                column: read_u16(bytes, 8 * k),
-                base: read_u16(bytes, 8 * k + 2),
-                shift: read_u16(bytes, 8 * k + 4),
-                weight: read_u16(bytes, 8 * k + 6),
-            },
+        let at = self.width() * k;
+        let (shift, weight) = match self {
+            Form::Listed => (0, read_u16(bytes, at + 4)),
+            Form::Lift => (read_u16(bytes, at + 4), read_u16(bytes, at + 6)),
+        };
+        Entry {
+            column: read_u16(bytes, at),
+            base: read_u16(bytes, at + 2),
+            shift,
+            weight,
         }
     }
 }
 
 impl Entry {
-    // The row that the record gives place `t` of its column, in a lift of this size.
-    pub(crate) fn row(self, size: usize, t: usize) -> usize
-        requires { (0 < size) × ((size ≤ 512) × (t < size)) }
-        ensures { result ≡ self.base * size + (t + self.shift) % size }
-    {
-        self.base as usize * size + (t + self.shift as usize) % size
-    }
-
     fn ascends_from(self, before: Entry) -> bool
         ensures { result ≡ ascends before self }
     {
-        before.base < self.base || (before.base == self.base && before.shift < self.shift)
+        (before.base, before.shift) < (self.base, self.shift)
     }
 }
 
 impl Shape {
+    // A file that lists every edge of a graph with these numbers: a lift of size 1.
+    pub fn listed(places: usize, rows: usize, degree: usize) -> Shape
+        ensures { result ≡ listed_shape places rows degree }
+    {
+        Shape {
+            form: Form::Listed,
+            bases: rows,
+            columns: places,
+            lift: 1,
+            degree,
+        }
+    }
+
+    // A file of the records of a lift: with base rows, base columns, lift size and degree.
+    pub fn lift(bases: usize, columns: usize, size: usize, degree: usize) -> Shape
+        ensures { result ≡ lift_shape bases columns size degree }
+    {
+        Shape {
+            form: Form::Lift,
+            bases,
+            columns,
+            lift: size,
+            degree,
+        }
+    }
+
     fn fits(self) -> bool
         ensures { result ≡ sizes_fit self }
     {
-        let Some(places) = self.columns.checked_mul(self.lift) else {
+        let (Some(places), Some(rows)) = (
+            self.columns.checked_mul(self.lift),
+            self.bases.checked_mul(self.lift),
+        ) else {
             return false;
         };
-        let Some(rows) = self.bases.checked_mul(self.lift) else {
-            return false;
-        };
-        1 <= places
-            && places <= 512
-            && 1 <= rows
-            && rows <= 512
-            && 1 <= self.degree
-            && self.degree <= 16
+        (1..=512).contains(&places)
+            && (1..=512).contains(&rows)
+            && (1..=16).contains(&self.degree)
             && self.degree <= rows
     }
 
@@ -112,70 +125,56 @@ impl Shape {
         requires { 0 < self.degree }
         ensures { result ≡ in_order self k before entry }
     {
-        entry.column as usize == k / self.degree
+        usize::from(entry.column) == k / self.degree
             && (k % self.degree == 0 || entry.ascends_from(before))
     }
 
     fn in_range(self, entry: Entry) -> bool
         ensures { result ≡ in_range self entry }
     {
-        (entry.base as usize) < self.bases && (entry.shift as usize) < self.lift
+        usize::from(entry.base) < self.bases && usize::from(entry.shift) < self.lift
     }
 
-    // What is wrong with record `k`, which follows `before`.
-    fn record_fault(self, k: usize, before: Entry, entry: Entry) -> Option<Fault>
-        requires { 0 < self.degree }
-        ensures { result ≡ entry_fault self k before entry }
+    // Checks record `k`.
+    fn check_record(self, bytes: &[u8], k: usize) -> Result<(), Fault>
+        requires some { 0 < self.degree }
+        requires inside { width self.form * (k + 1) ≤ length bytes.now }
+        ensures { result_err result ≡ record_fault bytes.now self k }
     {
+        let before = self.form.entry(bytes, k.saturating_sub(1));
+        let entry = self.form.entry(bytes, k);
         if !self.in_order(k, before, entry) {
-            return Some(shelf_fault(Refusal::RecordOrder, k));
+            return Err(Layer::Shelf.fault(Refusal::RecordOrder, k));
         }
         if !self.in_range(entry) {
-            return Some(shelf_fault(Refusal::RowOutOfRange, k));
+            return Err(Layer::Shelf.fault(Refusal::RowOutOfRange, k));
         }
         if entry.weight == 0 {
-            return Some(shelf_fault(Refusal::ZeroWeight, k));
+            return Err(Layer::Shelf.fault(Refusal::ZeroWeight, k));
         }
-        None
+        Ok(())
     }
-}
 
-fn shelf_fault(refusal: Refusal, position: usize) -> Fault
-    ensures { result ≡ shelf_fault refusal position }
-{
-    Fault {
-        refusal,
-        layer: Layer::Shelf,
-        position,
-    }
-}
-
-// The first fault of a file's records, whose number the file's length has shown.
-fn first_fault(form: Form, bytes: &[u8], shape: Shape) -> Option<Fault>
-    requires fits { sizes_fit shape ≡ true }
-    requires long { length bytes.now ≡ width form * records_of shape }
-    ensures { result ≡ first_fault form bytes.now shape }
-{
-    let mut before = form.entry(bytes, 0);
-    for k in 0..shape.columns * shape.degree {
-        let entry = form.entry(bytes, k);
-        if let Some(fault) = shape.record_fault(k, before, entry) {
-            return Some(fault);
+    // Checks the bytes of a file: the sizes first, then its length, then its records in their order.
+    pub(crate) fn check(self, bytes: &[u8]) -> Result<(), Fault>
+        ensures { result_err result ≡ file_fault bytes.now self }
+    {
+        if !self.fits() {
+            return Err(Layer::Shelf.fault(Refusal::SizeOutOfRange, 0));
         }
-        before = entry;
+        let records = self.columns * self.degree;
+        if bytes.len() != self.form.width() * records {
+            return Err(Layer::Shelf.fault(Refusal::FileLength, 0));
+        }
+        (0..records).try_for_each(|k| self.check_record(bytes, k))
     }
-    None
-}
 
-// What is wrong with a file that is opened with the numbers of `shape`.
-pub(crate) fn file_fault(form: Form, bytes: &[u8], shape: Shape) -> Option<Fault>
-    ensures { result ≡ file_fault form bytes.now shape }
-{
-    if !shape.fits() {
-        return Some(shelf_fault(Refusal::SizeOutOfRange, 0));
+    // The row that a record gives place `t` of its column.
+    pub(crate) fn row(self, entry: Entry, t: usize) -> usize
+        requires few { self.lift ≤ 512 }
+        requires below { t < self.lift }
+        ensures { result ≡ row_of self entry t }
+    {
+        usize::from(entry.base) * self.lift + (t + usize::from(entry.shift)) % self.lift
     }
-    if bytes.len() != form.width() * (shape.columns * shape.degree) {
-        return Some(shelf_fault(Refusal::FileLength, 0));
-    }
-    first_fault(form, bytes, shape)
 }

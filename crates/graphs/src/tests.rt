@@ -20,11 +20,12 @@ fn shelf(refusal: Refusal, position: usize) -> Option<Fault> {
     })
 }
 
+fn fault(bytes: &[u8], shape: Shape) -> Option<Fault> {
+    GraphFile::check(bytes, shape).err()
+}
+
 fn listed_fault(bytes: &[u8], places: usize, rows: usize, degree: usize) -> Option<Fault> {
-    match ListedFile::check(bytes, places, rows, degree) {
-        Ok(_) => None,
-        Err(fault) => Some(fault),
-    }
+    fault(bytes, Shape::listed(places, rows, degree))
 }
 
 fn lift_fault(
@@ -34,10 +35,7 @@ fn lift_fault(
     size: usize,
     degree: usize,
 ) -> Option<Fault> {
-    match LiftFile::check(bytes, bases, columns, size, degree) {
-        Ok(_) => None,
-        Err(fault) => Some(fault),
-    }
+    fault(bytes, Shape::lift(bases, columns, size, degree))
 }
 
 // One byte of a file replaced, and the fault that is then found.
@@ -56,9 +54,7 @@ fn damaged_listed_files(rt: HostRuntime) {
     ];
     for (at, byte, refusal, position) in damages {
         let mut bytes = TWO;
-        if at < 24 {
-            bytes[at] = byte;
-        }
+        bytes[at] = byte;
         assert_eq!(rt; listed_fault(&bytes, 2, 3, 2), shelf(refusal, position));
     }
     assert_eq!(rt; listed_fault(&TWO, 2, 3, 2), None);
@@ -75,9 +71,7 @@ fn damaged_lifts(rt: HostRuntime) {
     ];
     for (at, byte, refusal, position) in damages {
         let mut bytes = SEVEN;
-        if at < 24 {
-            bytes[at] = byte;
-        }
+        bytes[at] = byte;
         assert_eq!(rt; lift_fault(&bytes, 1, 1, 7, 3), shelf(refusal, position));
     }
     assert_eq!(rt; lift_fault(&SEVEN, 1, 1, 7, 3), None);
@@ -118,10 +112,7 @@ fn sizes_and_lengths(rt: HostRuntime) {
 
 #[test]
 fn edges_of_the_seven_place_lift(rt: HostRuntime) -> Result<(), Fail> {
-    let Ok(file) = LiftFile::check(&SEVEN, 1, 1, 7, 3) else {
-        return Err(Fail::new("refused"));
-    };
-    let graph = Lift::new(file);
+    let graph = FileGraph::new(GraphFile::check(&SEVEN, Shape::lift(1, 1, 7, 3))?);
     for (k, row) in [(0usize, 6u16), (1, 0), (2, 2)] {
         let edge = graph.edge(Place(6), k);
         assert_eq!(rt;

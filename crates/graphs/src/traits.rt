@@ -10,7 +10,8 @@ pub struct Edge {
     pub weight: u16,
 }
 
-// An edge as its row has it: the place that it comes from, and its weight.
+// An edge as its row has it: the place that it comes from, and its weight. It has a type of its own, as places and rows have, so
+// that neither end is taken for the other.
 #[derive(Clone, Copy, Debug, PartialEq, Eq)]
 pub struct Meeting {
     pub place: Place,
@@ -40,14 +41,10 @@ pub trait Graph {
     fn weight_between(&self, row: Row, place: Place) -> Option<u16>
         ensures { result ≡ weight_between (model self.now) row.0 place.0 }
     {
-        for k in 0..self.degree() {
-            if let Some(edge) = self.edge(place, k) {
-                if edge.row == row {
-                    return Some(edge.weight);
-                }
-            }
-        }
-        None
+        (0..self.degree()).find_map(|k| {
+            let edge = self.edge(place, k)?;
+            (edge.row == row).then_some(edge.weight)
+        })
     }
 
     // The first place at or after `from` that `row` meets.
@@ -55,12 +52,10 @@ pub trait Graph {
         ensures value { result ≡ next_meeting (model self.now) row.0 from.0 }
         ensures nearest { NearestOrNone (model self.now) row.0 from.0 result }
     {
-        for i in from.0 as usize..self.places() {
+        (usize::from(from.0)..self.places()).find_map(|i| {
             let place = Place(i as u16);
-            if let Some(weight) = self.weight_between(row, place) {
-                return Some(Meeting { place, weight });
-            }
-        }
-        None
+            let weight = self.weight_between(row, place)?;
+            Some(Meeting { place, weight })
+        })
     }
 }

@@ -1,5 +1,0 @@
-use Rattle.graphs.specs.LiftFiles.{lift_granted, lift_edges}
-use Rattle.graphs.proofs.lifts.lifts_describe_graphs.Goals as goal
-
-pub returns : goal.returns
-returns c = record { granted = lift_granted; edges = lift_edges }

@@ -1,5 +1,0 @@
-use Rattle.graphs.specs.ListedFiles.{listed_granted, listed_edges}
-use Rattle.graphs.proofs.listed.listed_files_describe_graphs.Goals as goal
-
-pub returns : goal.returns
-returns c = record { granted = listed_granted; edges = listed_edges }
