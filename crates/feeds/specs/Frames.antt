@@ -1,16 +1,13 @@
 -- Frames: their records, which faults are found in them, and the codes that they bring. Assumes nothing.
-use Rattle.std.specs.Prelude.{◌≡◌, ℕ, ◌+◌, ◌-◌, ◌*◌, ◌/◌, ◌%◌, ◌<◌, ◌≤◌, Bool, cond, not, ◌&&◌, ◌||◌, ◌⊎◌, ◌↔◌, List, map, length, Some, None, Option, ◌==◌, ◌≢◌, nat_eq, nat_le, nat_lt, slice_index}
+use Rattle.std.specs.Prelude.{◌≡◌, ℕ, ◌+◌, ◌-◌, ◌*◌, ◌/◌, ◌%◌, ◌<◌, ◌≤◌, Bool, cond, not, ◌&&◌, ◌||◌, ◌⊎◌, ◌↔◌, List, map, length, Some, None, Option, ◌==◌, ◌≢◌, nat_eq, nat_le, nat_lt}
 use Rattle.std.specs.Option.{option_map, unwrap_or}
 use Rattle.std.specs.List.{slice_get, range_with_len}
 use Rattle.firsts.specs.First.{first_where}
+use Rattle.refusals.specs.Faults.{fault_by}
+use Rattle.refusals.specs.Numbers.{u16_at}
 use Rattle.refusals.specs.declared.faults.Fault.{Fault}
-use Rattle.refusals.specs.declared.faults.Refusal.{Refusal}
 use Rattle.refusals.specs.declared.faults.Refusal.TheVariants.{SizeOutOfRange, FrameLength, FrameOrder}
 use Rattle.refusals.specs.declared.faults.Layer.TheVariants.{Line}
-
--- 16 bits at p, the high byte first
-abbrev pub u16_at : List ℕ → ℕ → ℕ
-u16_at bytes p = slice_index bytes p * 256 + slice_index bytes (p + 1)
 
 -- the number of records in a frame
 abbrev pub records : List ℕ → ℕ
@@ -32,14 +29,10 @@ in_order frame n k = nat_lt (place_at frame k) n && (k == 0 || nat_lt (place_at 
 abbrev pub first_offence : List ℕ → ℕ → Option ℕ
 first_offence frame n = first_where (λ k. not (in_order frame n k)) 0 (records frame)
 
--- a refusal by the line
-abbrev pub line_fault : Refusal → ℕ → Fault
-line_fault r p = record { refusal = r; layer = Line; position = p }
-
 -- what is wrong with a frame that is opened with n: the number first, then its length, then its first offending record
 abbrev pub frame_fault : List ℕ → ℕ → Option Fault
 frame_fault frame n =
-    cond (nat_le 1 n && nat_le n 512) (cond (length frame % 4 == 0) (option_map (line_fault FrameOrder) (first_offence frame n)) (Some (line_fault FrameLength 0))) (Some (line_fault SizeOutOfRange 0))
+    cond (nat_le 1 n && nat_le n 512) (cond (length frame % 4 == 0) (option_map (fault_by Line FrameOrder) (first_offence frame n)) (Some (fault_by Line FrameLength 0))) (Some (fault_by Line SizeOutOfRange 0))
 
 -- the first record that has place i
 abbrev pub record_of : List ℕ → ℕ → Option ℕ
@@ -79,7 +72,7 @@ FrameGranted = (frame : List ℕ) (n : ℕ) → (frame_fault frame n ≡ None) �
 
 -- a refusal by 7 names the first record that offends
 abbrev pub FirstOffence : Type 0
-FirstOffence = (frame : List ℕ) (n k : ℕ) → frame_fault frame n ≡ Some (line_fault FrameOrder k) → OffendsFirst frame n k
+FirstOffence = (frame : List ℕ) (n k : ℕ) → frame_fault frame n ≡ Some (fault_by Line FrameOrder k) → OffendsFirst frame n k
 
 -- a granted frame brings place i the code of the record that has this place
 abbrev pub RecordCodes : Type 0

@@ -1,5 +1,4 @@
 ghost use Rattle.std.specs.Prelude.{◌≡◌};
-ghost use Rattle.std.specs.List.{slice_get};
 
 use crate::traits::Feed;
 use refusals::Place;
@@ -26,17 +25,6 @@ impl Feed for ByteFeed<'_> {
     }
 
     fn code(&self, place: Place) -> Option<u16> {
-        byte_at(self.bytes, place.0 as usize)
-    }
-}
-
-// The byte at `i`, as a code.
-fn byte_at(bytes: &[u8], i: usize) -> Option<u16>
-    ensures { result ≡ slice_get bytes.now i }
-{
-    if i < bytes.len() {
-        Some(u16::from(bytes[i]))
-    } else {
-        None
+        self.bytes.get(usize::from(place.0)).copied().map(u16::from)
     }
 }

@@ -1,49 +1,53 @@
-ghost use Rattle.std.specs.Prelude.{◌≡◌, false, length, is_some, IfOk};
+ghost use Rattle.std.specs.Prelude.{◌≡◌, ℕ, ◌<◌, ◌≤◌, false, is_some, IfOk};
 ghost use Rattle.std.specs.Result.{result_err};
-ghost use Rattle.feeds.specs.Frames.{frame_fault, frame_codes, FrameGranted, FirstOffence, RecordCodes, OtherCodes};
+ghost use Rattle.feeds.specs.Frames.{records, place_at, frame_fault, frame_code, frame_codes, FrameGranted, FirstOffence, RecordCodes, OtherCodes};
 
-use crate::records::{code_in, frame_fault};
+use crate::records::{Record, check_frame, records};
 use crate::traits::Feed;
 use refusals::{Fault, Place};
-use std::cell::Cell;
 
 // A feed of the codes that a frame lists, checked: it has no fault. It borrows the frame.
 #[derive(Drop)]
 pub struct FrameFeed<'a> {
     frame: &'a [u8],
     places: usize,
-    // It holds nothing; with a cell among a struct's fields rattle writes the proofs of code over a `Result` of such
-    // structs.
-    seal: Cell<()>,
     ghost sound: { is_some (frame_fault frame.now places) ≡ false },
-    ghost long: { length (frame_codes frame.now places) ≡ places },
 }
 
 impl<'a> FrameFeed<'a> {
     // Checks a frame against the number of places that it is opened with.
     pub fn check(frame: &'a [u8], places: usize) -> Result<FrameFeed<'a>, Fault>
         ensures fault { result_err result ≡ frame_fault frame.now places }
-        ensures holds { IfOk result (λ f. (f.frame.now ≡ frame.now) × (f.places ≡ places)) }
+        ensures frame { IfOk result (λ f. f.frame.now ≡ frame.now) }
+        ensures places { IfOk result (λ f. f.places ≡ places) }
     {
-        match frame_fault(frame, places) {
-            Some(fault) => Err(fault),
-            None => Ok(FrameFeed::granted(frame, places)),
-        }
+        check_frame(frame, places)?;
+        Ok(FrameFeed { frame, places })
     }
 
-    // The feed of a frame that has no fault.
-    fn granted(frame: &'a [u8], places: usize) -> FrameFeed<'a>
-        requires { is_some (frame_fault frame.now places) ≡ false }
-        ensures { (result.frame.now ≡ frame.now) × (result.places ≡ places) }
+    // Where a record with `place` would stand, found by halving: the records before have lower places, and those from
+    // there on have not.
+    fn lower_bound(&self, place: u16) -> usize
+        ensures within { result ≤ records self.now.frame.now }
+        ensures before { (k : ℕ) → k < result → place_at self.now.frame.now k < place }
+        ensures after { (k : ℕ) → result ≤ k → k < records self.now.frame.now → place ≤ place_at self.now.frame.now k }
     {
-        FrameFeed {
-            frame,
-            places,
-            seal: Cell::new(()),
+        records(self.frame).partition_point(|record| Record::from(*record).place < place)
+    }
+
+    // The code of the record that has `place`, or 0.
+    fn code_of(&self, place: u16) -> u16
+        ensures { result ≡ frame_code self.now.frame.now place }
+    {
+        let k = self.lower_bound(place);
+        match records(self.frame).get(k).copied().map(Record::from) {
+            Some(record) if record.place == place => record.code,
+            _ => 0,
         }
     }
 }
 
+#[tactic(auto, using(crate::proofs::Codes::length_codes, crate::proofs::Codes::slice_get_codes))]
 impl Feed for FrameFeed<'_> {
     ghost codes = { λ f. frame_codes f.frame.now f.places };
 
@@ -52,17 +56,16 @@ impl Feed for FrameFeed<'_> {
     }
 
     fn code(&self, place: Place) -> Option<u16> {
-        code_in(self.frame, self.places, place.0)
+        (usize::from(place.0) < self.places).then_some(self.code_of(place.0))
     }
 }
 
+// The laws below are cited in `proofs/`: the tactics do not find all of them by name.
 // A frame is granted exactly when it is one for that number of places; a refusal by 7 names the first record that offends;
 // and a granted frame brings each place the code of its record, or 0.
-pub fn frames_bring_their_records() -> u8
+pub fn frames_bring_their_records()
     ensures granted { FrameGranted }
     ensures offence { FirstOffence }
     ensures listed { RecordCodes }
     ensures others { OtherCodes }
-{
-    0
-}
+{}

@@ -14,10 +14,7 @@ fn line(refusal: Refusal, position: usize) -> Option<Fault> {
 }
 
 fn frame_fault(frame: &[u8], places: usize) -> Option<Fault> {
-    match FrameFeed::check(frame, places) {
-        Ok(_) => None,
-        Err(fault) => Some(fault),
-    }
+    FrameFeed::check(frame, places).err()
 }
 
 #[test]
@@ -37,9 +34,7 @@ fn bytes_are_codes(rt: HostRuntime) {
 
 #[test]
 fn a_frame_with_holes(rt: HostRuntime) -> Result<(), Fail> {
-    let Ok(feed) = FrameFeed::check(&FRAME, 6) else {
-        return Err(Fail::new("refused"));
-    };
+    let feed = FrameFeed::check(&FRAME, 6)?;
     assert_eq!(rt; feed.len(), 6);
     for (place, code) in [
         (0u16, Some(0u16)),
@@ -69,9 +64,7 @@ fn damaged_frames(rt: HostRuntime) {
         (9, 1, 2),
     ] {
         let mut frame = FRAME;
-        if at < 12 {
-            frame[at] = byte;
-        }
+        frame[at] = byte;
         assert_eq!(rt; frame_fault(&frame, 6), line(Refusal::FrameOrder, position));
     }
     assert_eq!(rt; frame_fault(&FRAME, 5), line(Refusal::FrameOrder, 2));
@@ -87,16 +80,12 @@ fn sizes_and_lengths(rt: HostRuntime) -> Result<(), Fail> {
         );
     }
     for end in [1usize, 2, 11] {
-        if end < 12 {
-            assert_eq!(rt;
-                frame_fault(&FRAME[0..end], 1),
-                line(Refusal::FrameLength, 0)
-            );
-        }
+        assert_eq!(rt;
+            frame_fault(&FRAME[0..end], 1),
+            line(Refusal::FrameLength, 0)
+        );
     }
-    let Ok(feed) = FrameFeed::check(b"", 512) else {
-        return Err(Fail::new("refused"));
-    };
+    let feed = FrameFeed::check(b"", 512)?;
     assert_eq!(rt; feed.len(), 512);
     assert_eq!(rt; feed.code(Place(511)), Some(0));
     assert_eq!(rt; feed.code(Place(512)), None);

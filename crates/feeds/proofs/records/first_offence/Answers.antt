@@ -1,17 +1,17 @@
-use Rattle.std.proofs.Common.{sym, ◌∙◌}
-use Rattle.std.proofs.lemmas.Bool.{not_from_true, not_from_false}
-use Rattle.firsts.proofs.Passes.{where_here, where_skip, where_end}
+use Rattle.std.proofs.Common.{rules, of_calls, ◌≡◌, ℕ, ◌-◌, ◌<◌, length, Bool, not, [], ap, ◌∙◌, arith}
+use Rattle.std.proofs.lemmas.Bool.Decides.{nat_tests}
+use Rattle.feeds.specs.Frames.{records, in_order}
+use Rattle.firsts.specs.First.{first_where}
+use Rattle.firsts.proofs.Ranges.{first_where_by_find}
 use Rattle.feeds.proofs.records.first_offence.Goals as goal
 
-pub returns-then-not-in_order : goal.returns-then-not-in_order
-returns-then-not-in_order c =
-    sym (where_here _ c.loop-k.k _ c.loop-k-test.true (not_from_false _ (sym c.if-not-in_order.ensures)))
-    ∙ c.loop-k.invariant
-
-pub loop-k-preserved : goal.loop-k-preserved
-loop-k-preserved c =
-    sym (where_skip _ c.loop-k.k _ c.loop-k-test.true (not_from_true _ (sym c.if-not-in_order.ensures)))
-    ∙ c.loop-k.invariant
-
 pub returns : goal.returns
-returns c = sym (where_end _ c.loop-k.k _ c.loop-k-test.false) ∙ c.loop-k.invariant
+returns c =
+    let offends : ℕ → Bool = λ k. not (in_order c.args.frame.now c.args.places k) in
+    let many : length c.records-records.result.now - 0 ≡ records c.args.frame.now = omega arith in
+    first_where_by_find _ _ offends _ _ (λ x q k. search (rules, of_calls)) (λ x b q low high k.
+    let inside : x < records c.args.frame.now = omega arith in
+    let here = c.records-records.ensures.places x [] inside in
+    let last = c.records-records.ensures.places (x - 1) [] (omega arith) in
+    grind (arith, nat_tests))
+    c.find.result c.find.ensures.ran ∙ ap (first_where offends 0) many
