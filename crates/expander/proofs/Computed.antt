@@ -4,10 +4,9 @@ use Rattle.std.proofs.lemmas.Bool.{or_cases, leb-true, eqb-true}
 use Rattle.bitsets.specs.Bits.{count}
 use Rattle.firsts.specs.First.{first_where}
 use Rattle.fields.specs.Checked.{passes, passed}
-use Rattle.fields.specs.CodeFields.{element}
+use Rattle.fields.specs.Elements.{element}
 use Rattle.fields.specs.Models.{FieldModel}
-use Rattle.fields.specs.Powers.{raised}
-use Rattle.fields.specs.Bits.{bits}
+use Rattle.fields.specs.Fields.{bits}
 use Rattle.graphs.specs.Models.{GraphModel}
 use Rattle.expander.specs.Words.{total, symbols}
 use Rattle.expander.specs.Votes.{majority, rank, changed}
@@ -58,7 +57,7 @@ two_changes start end p q hp first hq second alone done is =
     }
 
 pub examples_compute_lem : Examples
-unfolding count total majority seen meetings sets_up_to sets_from number_of_sets choose lowest_picks first_where passes element raised
+unfolding count total majority seen meetings sets_up_to sets_from number_of_sets choose lowest_picks first_where passes element
 examples_compute_lem = record {
   survey_2 = refl;
   survey_3 = refl;

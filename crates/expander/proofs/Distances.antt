@@ -1,6 +1,6 @@
 -- The distance of two words. Assumes nothing.
-use Rattle.std.proofs.Common.{◌≡◌, ℕ, ◌+◌, ◌<◌, ◌≤◌, Bool, true, false, not, ◌≢◌, List, length, sym, refl, ap, ◌∙◌, ⊎_elim, arith, ext_get_or}
-use Rattle.std.proofs.lemmas.Bool.{cases_Bool}
+use Rattle.std.proofs.Common.{◌≡◌, ℕ, ◌+◌, ◌<◌, ◌≤◌, Bool, true, false, not, ◌⊎◌, ◌≢◌, List, length, sym, refl, ap, ◌∙◌, inl, inr, ⊎_elim, arith, ext_get_or, set, get_or-set_other}
+use Rattle.std.proofs.lemmas.Bool.{cases_Bool, true_from_ne_false, not_from_false}
 use Rattle.fields.specs.Models.{FieldModel}
 use Rattle.expander.specs.Words.{same, symbols, distance}
 use Rattle.expander.proofs.Sums.{bit, bit_low, sum, count-sum, count_cover, sum-zero, sum_single, sum_member}
@@ -15,11 +15,7 @@ module _ {F : Type 0} (f : FieldModel F) where
   equal_0 w x i e = ap (λ b. bit (not b)) (true_same f (w i) (x i) e)
 
   pub not_differ : (w x : ℕ → F) (i : ℕ) → bit (differ w x i) ≡ 0 → w i ≡ x i
-  not_differ w x i e = same_true f (w i) (x i) (not_bit (same f (w i) (x i)) e)
-    where
-      not_bit : (b : Bool) → bit (not b) ≡ 0 → b ≡ true
-      not_bit true h = refl
-      not_bit false h = absurd (omega arith)
+  not_differ w x i e = same_true f (w i) (x i) (true_from_ne_false (same f (w i) (x i)) (λ u. omega (arith, ap (λ b. bit (not b)) u)))
 
 module _ {F : Type 0} (f : FieldModel F) (n : ℕ) where
   pub distance-sum : (w x : ℕ → F) → distance f n w x ≡ sum n (λ i. bit (differ f w x i))
@@ -29,15 +25,11 @@ module _ {F : Type 0} (f : FieldModel F) (n : ℕ) where
   distance_self w = distance-sum w w ∙ sum-zero n (λ i. bit (differ f w w i)) (λ i l. equal_0 f w w i refl)
 
   -- a third word differs from one of two where these differ
-  corner : (b x y : ℕ → F) (i : ℕ) → bit (differ f x y i) ≤ bit (differ f b x i) + bit (differ f b y i)
-  corner b x y i =
+  corner : (b x y : ℕ → F) (i : ℕ) → differ f x y i ≡ true → (differ f b x i ≡ true) ⊎ (differ f b y i ≡ true)
+  corner b x y i d =
       ⊎_elim
-      (λ (t : same f (b i) (x i) ≡ true).
-      ⊎_elim
-      (λ (u : same f (b i) (y i) ≡ true). omega (arith, equal_0 f x y i (sym (same_true f (b i) (x i) t) ∙ same_true f (b i) (y i) u)))
-      (λ (u : same f (b i) (y i) ≡ false). omega (arith, ap (λ c. bit (not c)) u, bit_low (differ f x y i)))
-      (cases_Bool (same f (b i) (y i))))
-      (λ (t : same f (b i) (x i) ≡ false). omega (arith, ap (λ c. bit (not c)) t, bit_low (differ f x y i)))
+      (λ (t : same f (b i) (x i) ≡ true). inr (rw (same_true f (b i) (x i) t) d))
+      (λ (u : same f (b i) (x i) ≡ false). inl (not_from_false (same f (b i) (x i)) u))
       (cases_Bool (same f (b i) (x i)))
 
   pub triangle : (b x y : ℕ → F) → distance f n x y ≤ distance f n b x + distance f n b y
@@ -46,14 +38,18 @@ module _ {F : Type 0} (f : FieldModel F) (n : ℕ) where
   pub distance_flip : (w x : ℕ → F) → distance f n w x ≡ distance f n x w
   distance_flip w x = omega (arith, triangle x w x, triangle w x w, distance_self x, distance_self w)
 
-  -- words that agree but at place i differ in at most one
-  pub one_apart : (w x : ℕ → F) (i : ℕ) → i < n → ((a : ℕ) → a < n → a ≢ i → x a ≡ w a) → distance f n w x ≤ 1
-  one_apart w x i l others =
-      omega (arith, distance-sum w x, sum_single n i (λ k. bit (differ f w x k)) l (λ k h apart. equal_0 f w x k (sym (others k h apart))), bit_low (differ f w x i))
+  -- a symbol that is put at one place leaves the others, and moves the word by at most one
+  pub put_others : (w : List F) (i : ℕ) (s : F) (a : ℕ) → a < n → a ≢ i → symbols f (set w i s) a ≡ symbols f w a
+  put_others w i s a l apart = get_or-set_other w i a s (f.element 0) apart
 
-  -- a symbol that is put at one place moves the word by at most one
-  pub one_more : (w x y : ℕ → F) (i : ℕ) → i < n → ((a : ℕ) → a < n → a ≢ i → x a ≡ w a) → distance f n x y ≤ distance f n w y + 1
-  one_more w x y i l others = omega (arith, triangle w x y, one_apart w x i l others)
+  one_apart : (w : List F) (i : ℕ) (s : F) → i < n → distance f n (symbols f w) (symbols f (set w i s)) ≤ 1
+  one_apart w i s l =
+      let x = symbols f (set w i s) in
+      let single = sum_single n i (λ k. bit (differ f (symbols f w) x k)) l (λ k h apart. equal_0 f (symbols f w) x k (sym (put_others w i s k h apart))) in
+      omega (arith, distance-sum (symbols f w) x, single, bit_low (differ f (symbols f w) x i))
+
+  pub one_more : (w : List F) (i : ℕ) (s : F) (y : ℕ → F) → i < n → distance f n (symbols f (set w i s)) y ≤ distance f n (symbols f w) y + 1
+  one_more w i s y l = omega (arith, triangle (symbols f w) (symbols f (set w i s)) y, one_apart w i s l)
 
   -- words of one length that do not differ are one
   pub no_distance : (w x : List F) → length w ≡ n → length x ≡ n → distance f n (symbols f w) (symbols f x) ≡ 0 → w ≡ x

@@ -1,17 +1,17 @@
 -- The rows that a place meets, by its edges. Assumes nothing.
-use Rattle.std.proofs.Common.{◌≡◌, ℕ, ◌*◌, ◌<◌, ◌≤◌, true, false, eqb, ltb, ◌≢◌, is_some, Some, None, Option, sym, refl, ap, ◌∙◌, ⊎_elim, one-mul, zero-mul, mul-one, arith}
-use Rattle.std.proofs.lemmas.Bool.{true≢false, and_from, and_right, lt-ltb, eq-eqb, ne_eqb, cases_lt, cases_Bool}
+use Rattle.std.proofs.Common.{◌≡◌, ℕ, ◌*◌, ◌<◌, ◌≤◌, true, false, eqb, ◌≢◌, is_some, Some, None, Option, sym, refl, ap, ◌∙◌, ⊎_elim, one-mul, zero-mul, mul-one, arith}
+use Rattle.std.proofs.lemmas.Bool.{lt-ltb, eq-eqb, ne_eqb, cases_lt, cases_Bool}
 use Rattle.firsts.proofs.Firsts.{none_from, first_only}
 use Rattle.bitsets.specs.Bits.{count}
 use Rattle.fields.specs.Models.{FieldModel}
-use Rattle.graphs.specs.Models.{GraphModel, Valid, HasEdge, when, weight_to, weight_between}
+use Rattle.graphs.specs.Models.{GraphModel, Valid, HasEdge, weight_to, weight_between}
 use Rattle.graphs.proofs.Meetings.{found, shown}
 use Rattle.expander.specs.Words.{meets, weight_element, coefficient, WeightsFit}
 use Rattle.expander.proofs.Sums.{bit, sum, count-sum, sum_same, sum-zero, sum-times, sum_swap, sum_single, sum_ones}
 use Rattle.expander.proofs.FieldLaws.{code-zero}
 
 some_of : {A : Type 0} (o : Option A) → is_some o ≡ true → (a : A) × (o ≡ Some a)
-some_of None h = absurd (true≢false (sym h))
+some_of None h = cc
 some_of (Some a) h = (a, refl)
 
 module _ (g : GraphModel) where
@@ -35,8 +35,8 @@ module _ (g : GraphModel) where
           at = k;
           from = omega arith;
           within = omega arith;
-          here = ap (λ b. when b (g.weight i k)) (and_from (ltb i g.places) (eqb (g.row i k) (g.row i k)) (lt-ltb i g.places hi) (eq-eqb (g.row i k) (g.row i k) refl));
-          before = λ a low less. ap (λ b. when b (g.weight i a)) (and_right (ltb i g.places) _ (ne_eqb (g.row i a) (g.row i k) (λ e. ok.different i a k hi less hk e)));
+          here = rw (lt-ltb i g.places hi, eq-eqb (g.row i k) (g.row i k) refl);
+          before = λ a low less. rw (lt-ltb i g.places hi, ne_eqb (g.row i a) (g.row i k) (ok.different i a k hi less hk));
         }))
 
     -- a row meets a place by one edge or by none
@@ -45,21 +45,21 @@ module _ (g : GraphModel) where
         ⊎_elim
         (λ (met : meets g j i ≡ true).
         let (k, hk, er, ew) = (edge_of j i met).2.1 in
-        ap bit met ∙ sym (ap bit (eq-eqb (g.row i k) j er))
-        ∙ sym (sum_single g.degree k (λ a. bit (eqb (g.row i a) j)) hk (λ a ha apart. ap bit (ne_eqb (g.row i a) j (λ e. same_edge i a k hi ha hk (e ∙ sym er) apart)))))
+        let one = sum_single g.degree k (λ a. bit (eqb (g.row i a) j)) hk (λ a ha apart. ap bit (ne_eqb (g.row i a) j (λ e. same_edge i a k hi ha hk (e ∙ sym er) apart))) in
+        omega (arith, ap bit met, ap bit (eq-eqb (g.row i k) j er), one))
         (λ (none : meets g j i ≡ false).
-        ap bit none ∙ sym (sum-zero g.degree (λ a. bit (eqb (g.row i a) j)) (λ a ha. ap bit (ne_eqb (g.row i a) j (no_edge_of j i a none hi ha)))))
+        omega (arith, ap bit none, sum-zero g.degree (λ a. bit (eqb (g.row i a) j)) (λ a ha. ap bit (ne_eqb (g.row i a) j (no_edge_of j i a none hi ha)))))
         (cases_Bool (meets g j i))
 
     -- a sum over the rows that a place meets is one over its edges
     pub rows_of_place : (i : ℕ) (h : ℕ → ℕ) → i < g.places → sum g.rows (λ j. bit (meets g j i) * h j) ≡ sum g.degree (λ k. h (g.row i k))
     rows_of_place i h hi =
-        sum_same g.rows _ _ (λ j l. ap (λ x. x * h j) (meets-sum i j hi) ∙ sym (sum-times g.degree (h j) (λ k. bit (eqb (g.row i k) j))))
+        sum_same g.rows _ _ (λ j l. rw (meets-sum i j hi) (sym (sum-times g.degree (h j) (λ k. bit (eqb (g.row i k) j)))))
         ∙ sum_swap g.rows g.degree (λ j k. bit (eqb (g.row i k) j) * h j)
         ∙ sum_same g.degree _ _ (λ k hk.
         sum_single g.rows (g.row i k) (λ j. bit (eqb (g.row i k) j) * h j) (ok.row_below i k hi hk)
-        (λ j l apart. ap (λ b. bit b * h j) (ne_eqb (g.row i k) j (λ e. apart (sym e))) ∙ zero-mul (h j))
-        ∙ ap (λ b. bit b * h (g.row i k)) (eq-eqb (g.row i k) (g.row i k) refl) ∙ one-mul (h (g.row i k)))
+        (λ j l apart. rw (ne_eqb (g.row i k) j (λ e. apart (sym e))) (zero-mul (h j)))
+        ∙ rw (eq-eqb (g.row i k) (g.row i k) refl) (one-mul (h (g.row i k))))
 
     -- a place meets as many rows as it has edges
     pub rows_are_degree : (i : ℕ) → i < g.places → sum g.rows (λ j. bit (meets g j i)) ≡ g.degree

@@ -1,6 +1,6 @@
 -- What follows from the laws of a field. Assumes nothing.
 use Rattle.std.proofs.Common.{◌≡◌, true, false, sym, ap, ◌∙◌, arith}
-use Rattle.std.proofs.lemmas.Bool.{eqb-true, eqb-false, eq-eqb, ne_eqb}
+use Rattle.std.proofs.lemmas.Bool.{eqb-true, eq-eqb, ne_eqb}
 use Rattle.fields.specs.Models.{FieldModel}
 use Rattle.expander.specs.Words.{is_zero, same}
 
@@ -48,9 +48,6 @@ module _ {F : Type 0} (f : FieldModel F) where
   pub zero_true : (x : F) → is_zero f x ≡ true → x ≡ f.element 0
   zero_true x e = f.same_code x (f.element 0) (eqb-true (f.code x) 0 e ∙ sym code-zero)
 
-  pub zero_false : (x : F) → is_zero f x ≡ false → x ≡ f.element 0 → ⊥
-  zero_false x e z = eqb-false (f.code x) 0 e (ap f.code z ∙ code-zero)
-
   pub true_zero : (x : F) → x ≡ f.element 0 → is_zero f x ≡ true
   true_zero x z = eq-eqb (f.code x) 0 (ap f.code z ∙ code-zero)
 
@@ -60,14 +57,8 @@ module _ {F : Type 0} (f : FieldModel F) where
   pub same_true : (x y : F) → same f x y ≡ true → x ≡ y
   same_true x y e = f.same_code x y (eqb-true (f.code x) (f.code y) e)
 
-  pub same_false : (x y : F) → same f x y ≡ false → x ≡ y → ⊥
-  same_false x y e z = eqb-false (f.code x) (f.code y) e (ap f.code z)
-
   pub true_same : (x y : F) → x ≡ y → same f x y ≡ true
   true_same x y e = eq-eqb (f.code x) (f.code y) (ap f.code e)
-
-  pub false_same : (x y : F) → (x ≡ y → ⊥) → same f x y ≡ false
-  false_same x y apart = ne_eqb (f.code x) (f.code y) (λ e. apart (f.same_code x y e))
 
   -- the one element that closes a row of sum s, put in with the weight h
   module _ (s h : F) (apart : h ≡ f.element 0 → ⊥) where

@@ -1,17 +1,20 @@
 -- Every call keeps the law of the account. Assumes nothing.
-use Rattle.std.proofs.Common.{◌≡◌, ℕ, zero, suc, ◌+◌, ◌-◌, ◌*◌, ◌<◌, ◌≤◌, Bool, true, false, not, eqb, ltb, leb, ◌≢◌, List, [], ◌∷◌, map, length, set, Some, None, Option, sym, refl, ap, ◌∙◌, subst, ⊎_elim, add-zero, mul-le-mul_left, mul-zero, arith, length-set, get_or-set_other}
+use Rattle.std.proofs.Common.{◌≡◌, ℕ, suc, ◌+◌, ◌-◌, ◌*◌, ◌<◌, ◌≤◌, Bool, not, eqb, ltb, leb, List, [], ◌∷◌, map, length, set, Some, None, Option, sym, refl, ap, ◌∙◌, subst, ⊎_elim, add-zero, mul-le-mul_left, mul-zero, arith, length-set}
 use lib.ListN.{length-replicate}
+use Rattle.std.proofs.Math.Nat.{lt_of_mul-lt-mul_left}
 use Rattle.std.proofs.lemmas.List.{length-map}
-use Rattle.std.proofs.lemmas.Bool.{and_from, not-false, ltb-true, lt-ltb, leb-false, eqb-true, cases_lt}
+use Rattle.std.proofs.lemmas.Bool.{not-false, leb-false, eqb-true, cases_lt}
+use Rattle.std.specs.Bool.{Decides}
+use Rattle.std.proofs.lemmas.Bool.Decides.{Decides-ltb, Decides-below_and}
 use Rattle.refusals.specs.declared.faults.Fault.{Fault}
 use Rattle.refusals.specs.declared.faults.Refusal.TheVariants.{WeightOutOfField}
 use Rattle.refusals.specs.declared.faults.Layer.TheVariants.{Decoder}
-use Rattle.firsts.proofs.Firsts.{some≢none}
+use Rattle.firsts.proofs.Passes.{cond_none}
 use Rattle.fields.specs.Models.{FieldModel}
-use Rattle.fields.specs.Checked.{passes, passed}
-use Rattle.graphs.specs.Models.{GraphModel, Valid, when}
+use Rattle.fields.specs.Checked.{passes}
+use Rattle.graphs.specs.Models.{GraphModel, Valid}
 use Rattle.expander.specs.Words.{symbols, distance, open_row_count, WeightsFit}
-use Rattle.expander.specs.Votes.{rank, changed}
+use Rattle.expander.specs.Votes.{rank, change, changed}
 use Rattle.expander.specs.Expansion.{AllExpand}
 use Rattle.expander.specs.Accounts.{Call, survey, load, overwrite, repair, settle, panel, Answer, Account, zeros, new_account, weights_fit, fault_if, Picked, after_picks, first_fault, call_faults, fault_of, granted, taken, ByRepair, Takes}
 use Rattle.expander.specs.Promises.{errors, Lawful, CallsKeepTheLaw}
@@ -29,26 +32,17 @@ NoFault (x ∷ faults) = (x ≡ None) × NoFault faults
 pub no_fault : (faults : List (Option Fault)) → first_fault faults ≡ None → NoFault faults
 no_fault [] e = tt
 no_fault (None ∷ faults) e = (refl, no_fault faults e)
-no_fault (Some a ∷ faults) e = absurd (some≢none a e)
-
-pub no_reason : {A : Type 0} (b : Bool) (a : A) → when b a ≡ None → b ≡ false
-no_reason true a e = absurd (some≢none a e)
-no_reason false a e = refl
-
--- a test that is passed everywhere passes
-passes_all : (p : ℕ → Bool) (n : ℕ) → ((k : ℕ) → k < n → p k ≡ true) → passes p n ≡ true
-unfolding passes
-passes_all p zero h = refl
-passes_all p (suc n) h = and_from (p n) (passes p n) (h n (omega arith)) (passes_all p n (λ k l. h k (omega arith)))
+no_fault (Some a ∷ faults) e = cc
 
 module _ {F : Type 0} (f : FieldModel F) (g : GraphModel) where
-  pub weights_pass : WeightsFit f g → weights_fit f g ≡ true
-  weights_pass fit = passes_all _ g.places (λ i hi. passes_all _ g.degree (λ k hk. lt-ltb (g.weight i k) f.size (fit i k hi hk)))
-
-  pub weights_passed : weights_fit f g ≡ true → WeightsFit f g
-  weights_passed e i k hi hk =
-      let of-place = passed (λ a. passes (λ l. ltb (g.weight a l) f.size) g.degree) g.places e i hi in
-      ltb-true (g.weight i k) f.size (passed (λ l. ltb (g.weight i l) f.size) g.degree of-place k hk)
+  pub weights_decide : Decides (weights_fit f g) (WeightsFit f g)
+  unfolding passes
+  weights_decide =
+      let fits : ℕ → ℕ → Bool = λ i k. ltb (g.weight i k) f.size in
+      let each = λ (i : ℕ). Decides-below_and (fits i) (λ k. g.weight i k < f.size) (passes (fits i)) (λ k. Decides-ltb (g.weight i k) f.size) refl (λ n. refl) g.degree in
+      let all = Decides-below_and (λ i. passes (fits i) g.degree) (λ i. (k : ℕ) → k < g.degree → g.weight i k < f.size)
+      (passes (λ i. passes (fits i) g.degree)) each refl (λ n. refl) g.places in
+      (λ e i k hi hk. all.0 e i hi k hk, λ fit. all.1 (λ i hi k hk. fit i k hi hk))
 
   pub not_refused : (radix : ℕ) (a : Account F) (c : Call) → fault_of f g radix a c ≡ None → NoFault (call_faults f g radix a c)
   not_refused radix a c e = (no_fault (fault_if (not (weights_fit f g)) WeightOutOfField Decoder ∷ call_faults f g radix a c) e).1
@@ -77,18 +71,15 @@ module _ {F : Type 0} (f : FieldModel F) (g : GraphModel) (ok : Valid g) (fit : 
   put : (a : Account F) → Lawful f g a → (p : ℕ) (s : F) → p < g.places
       → Lawful f g (record { base = a.base; word = set a.word p s; overwrites = a.overwrites + 1; changes = a.changes; level = a.level })
   put a law p s hp =
-      let w = symbols f a.word in
-      let v = symbols f (set a.word p s) in
-      let others : (i : ℕ) → i < g.places → i ≢ p → v i ≡ w i = λ i l apart. get_or-set_other a.word p i s (f.element 0) apart in
       record {
         base_long = law.base_long;
         word_long = length-set a.word p s ∙ law.word_long;
         expanding = law.expanding;
-        bounded = λ x code. omega (arith, law.bounded x code, few_opened f g ok w v p hp others);
+        bounded = λ x code. omega (arith, law.bounded x code, few_opened f g ok a.word p s hp);
         within = λ x t code up near.
             let before = law.within x t code up (omega arith) in
-            let less = room w (symbols f x) code.closed t (errors f g a x + a.overwrites) up (omega (arith, law.bounded x code)) (omega arith) (omega arith) before in
-            omega (arith, less, one_more f g.places w v (symbols f x) p hp others);
+            let less = room (symbols f a.word) (symbols f x) code.closed t (errors f g a x + a.overwrites) up (omega (arith, law.bounded x code)) (omega arith) (omega arith) before in
+            omega (arith, less, one_more f g.places a.word p s (symbols f x) hp);
       }
 
   -- the change of a place of a rank above 0 closes a row
@@ -106,24 +97,18 @@ module _ {F : Type 0} (f : FieldModel F) (g : GraphModel) (ok : Valid g) (fit : 
 
   make : (a : Account F) → Lawful f g a → (p : ℕ) → p < g.places → 0 < rank f g (symbols f a.word) p → Lawful f g (after_change a p)
   make a law p hp some =
-      let w = symbols f a.word in
-      let v = symbols f (changed f g a.word p) in
-      let others : (i : ℕ) → i < g.places → i ≢ p → v i ≡ w i = λ i l apart. get_or-set_other a.word p i _ (f.element 0) apart in
+      let s = f.plus (symbols f a.word p) (change f g (symbols f a.word) p) in
       let fewer = change_closes a.word p law.word_long hp some in
       record {
         base_long = law.base_long;
-        word_long = length-set a.word p _ ∙ law.word_long;
+        word_long = length-set a.word p s ∙ law.word_long;
         expanding = law.expanding;
         bounded = λ x code. omega (arith, law.bounded x code, fewer);
         within = λ x t code up near.
             let bound = law.bounded x code in
-            let large : 1 ≤ t = ⊎_elim (λ (l : 0 < t). l)
-            (λ (l : t ≤ 0).
-            let none : errors f g a x + a.overwrites ≡ 0 = omega arith in
-            absurd (omega (arith, bound, fewer, ap (λ k. g.degree * k) none, mul-zero g.degree)))
-            (cases_lt 0 t) in
-            let less = room w (symbols f x) code.closed t (errors f g a x + a.overwrites) up (omega (arith, bound)) near large (law.within x t code up near) in
-            omega (arith, less, one_more f g.places w v (symbols f x) p hp others);
+            let some : 0 < errors f g a x + a.overwrites = lt_of_mul-lt-mul_left g.degree (omega (arith, bound, fewer, mul-zero g.degree)) in
+            let less = room (symbols f a.word) (symbols f x) code.closed t (errors f g a x + a.overwrites) up (omega (arith, bound)) near (omega (arith, some)) (law.within x t code up near) in
+            omega (arith, less, one_more f g.places a.word p s (symbols f x) hp);
       }
 
   -- the account after the changes of the picks
@@ -154,9 +139,9 @@ module _ {F : Type 0} (f : FieldModel F) (g : GraphModel) (ok : Valid g) (fit : 
       within = law.within;
     }
     grants a (load codes) picks e law legal =
-        let long = eqb-true (length codes) g.places (not-false (eqb (length codes) g.places) (no_reason (not (eqb (length codes) g.places)) _ e.0)) in
+        let long = eqb-true (length codes) g.places (not-false (eqb (length codes) g.places) (cond_none (not (eqb (length codes) g.places)) _ e.0)) in
         fresh (map f.element codes) a.level (length-map codes f.element ∙ long) law.expanding
-    grants a (overwrite p code) picks e law legal = put a law p (f.element code) (leb-false g.places p (no_reason (leb g.places p) _ e.0))
+    grants a (overwrite p code) picks e law legal = put a law p (f.element code) (leb-false g.places p (cond_none (leb g.places p) _ e.0))
     grants a (repair budget) picks e law legal = make_all budget a picks law legal
     grants a settle picks e law legal = fresh a.word a.level law.word_long law.expanding
     grants a (panel places) picks e law legal = law

@@ -1,10 +1,10 @@
 -- Every list of calls keeps the promise at each of its calls. Assumes nothing.
-use Rattle.std.proofs.Common.{◌≡◌, ℕ, ◌+◌, ◌*◌, ◌<◌, ◌≤◌, true, false, not, eqb, leb, ◌↔◌, List, [], ◌∷◌, length, Some, None, Option, sym, refl, ap, ◌∙◌, subst, ⊎_elim, arith}
-use Rattle.std.proofs.lemmas.Bool.{and_parts, not-false, eqb-true, leb-true, cases_lt, cases_Bool}
+use Rattle.std.proofs.Common.{◌≡◌, ℕ, ◌+◌, ◌*◌, ◌<◌, ◌≤◌, true, not, ◌↔◌, List, length, Some, None, Option, sym, refl, ap, ◌∙◌, subst, ⊎_elim, arith}
+use Rattle.std.proofs.lemmas.Bool.{false_from_ne_true, not-false, cases_lt}
 use Rattle.refusals.specs.declared.faults.Fault.{Fault}
 use Rattle.refusals.specs.declared.faults.Refusal.TheVariants.{WeightOutOfField}
 use Rattle.refusals.specs.declared.faults.Layer.TheVariants.{Decoder}
-use Rattle.firsts.proofs.Firsts.{some≢none}
+use Rattle.firsts.proofs.Passes.{cond_none}
 use Rattle.fields.specs.Models.{FieldModel}
 use Rattle.graphs.specs.Models.{GraphModel, Valid}
 use Rattle.expander.specs.declared.outcomes.Outcome.{Outcome}
@@ -12,13 +12,14 @@ use Rattle.expander.specs.declared.outcomes.Outcome.TheVariants.{Sure, Spent}
 use Rattle.expander.specs.Words.{symbols, distance, open_row_count, Codeword, WeightsFit}
 use Rattle.expander.specs.Votes.{AllZero}
 use Rattle.expander.specs.Expansion.{AllExpand}
-use Rattle.expander.specs.Accounts.{Call, survey, load, overwrite, repair, settle, panel, Answer, repaired, refused, Account, Next, new_account, open_of, distance_of, sure, weights_fit, fault_if, spelled, Picked, outcome_of, report, first_fault, call_faults, fault_of, granted, taken, next, ByRepair, Takes, Steps}
+use Rattle.expander.specs.Accounts.{Call, survey, load, overwrite, repair, settle, panel, Answer, repaired, refused, Account, Next, new_account, open_of, distance_of, sure, weights_fit, spelled, Picked, outcome_of, report, call_faults, fault_of, granted, taken, next, ByRepair, Takes}
 use Rattle.expander.specs.Repairs.{OutcomeSays}
 use Rattle.expander.specs.Promises.{Says, errors, Near, SomeNear, Lawful, RepairPromise, SpelledByOnlyNear, AtCall, Promise, RefusalsLeaveTheAccount, OneCodewordIsNear, RunsKeepThePromise}
 use Rattle.expander.proofs.Expanding.{errors_open, errors_rank}
 use Rattle.expander.proofs.Distances.{triangle, distance_flip, no_distance}
-use Rattle.expander.proofs.RepairResults.{SomeRank, rank_cases, rank_open, picked_ends, repairs_have_one_result_lem}
-use Rattle.expander.proofs.Lawfulness.{NoFault, no_reason, not_refused, weights_pass, weights_passed, after_repair, make_all, repair_closes, call_keeps, new_lawful}
+use Rattle.expander.proofs.RepairResults.{SomeRank, rank_cases, rank_open, picked_ends, sure_tells, repairs_have_one_result_lem}
+use Rattle.expander.proofs.LowestRuns.{steps_keep}
+use Rattle.expander.proofs.Lawfulness.{NoFault, not_refused, weights_decide, after_repair, make_all, repair_closes, call_keeps, new_lawful}
 
 module _ {F : Type 0} (f : FieldModel F) (g : GraphModel) (ok : Valid g) (fit : WeightsFit f g) where
   pub near_one : (a : Account F) → AllExpand g a.level → (x y : List F) → Codeword f g x → Codeword f g y → Near f g a x → Near f g a y → x ≡ y
@@ -71,10 +72,9 @@ module _ {F : Type 0} (f : FieldModel F) (g : GraphModel) (ok : Valid g) (fit : 
     finds x code near enough =
         ⊎_elim
         (λ some.
-        let s = some.1 in
-        let left = rank_open f g ok (symbols f b.word) s.0 s.1 s.2 in
-        absurd (omega (arith, used_up s, left, repair_closes f g ok fit budget a.word picks law.word_long legal, law.bounded x code)))
-        (λ none. sure_at_rest none.1 x code near)
+        let left = rank_open f g ok (symbols f b.word) some.0 some.1 some.2 in
+        absurd (omega (arith, used_up some, left, repair_closes f g ok fit budget a.word picks law.word_long legal, law.bounded x code)))
+        (λ none. sure_at_rest none x code near)
         (rank_cases f g b.word)
 
     -- the word of a sure account is a near codeword
@@ -91,8 +91,8 @@ module _ {F : Type 0} (f : FieldModel F) (g : GraphModel) (ok : Valid g) (fit : 
         is_near,
         λ n.
             ⊎_elim
-            (λ some. absurd (not-spent (says Spent (some.1, used_up some.1))))
-            (λ none. (sure_at_rest none.1 n.0 n.1 n.2).1)
+            (λ some. absurd (not-spent (says Spent (some, used_up some))))
+            (λ none. (sure_at_rest none n.0 n.1 n.2).1)
             (rank_cases f g b.word),
       );
     }
@@ -101,19 +101,18 @@ module _ {F : Type 0} (f : FieldModel F) (g : GraphModel) (ok : Valid g) (fit : 
   shows : (radix : ℕ) (a : Account F) (places : List ℕ) → Lawful f g a → sure f g a ≡ true
       → SpelledByOnlyNear f g radix a places (spelled f radix (symbols f a.word) places)
   shows radix a places law s =
-      let p = and_parts (eqb (open_of f g a) 0) (leb (2 * (distance_of f g a + a.overwrites)) a.level) s in
-      let code : Codeword f g a.word = record { long = law.word_long; closed = eqb-true (open_of f g a) 0 p.0 } in
-      let few = leb-true (2 * (distance_of f g a + a.overwrites)) a.level p.1 in
+      let (closed, few) = sure_tells f g a s in
+      let code : Codeword f g a.word = record { long = law.word_long; closed = closed } in
       let near : Near f g a a.word = omega (arith, few, distance_flip f g.places (symbols f a.word) (symbols f a.base)) in
       record { word = a.word; codeword = code; near = near; only = λ y cy ny. near_one a law.expanding y a.word cy code ny near; spells = refl }
 
   module _ (radix : ℕ) where
     panel_sure : (a : Account F) (places : List ℕ) → NoFault (call_faults f g radix a (panel places)) → sure f g a ≡ true
-    panel_sure a places none = not-false (sure f g a) (no_reason (not (sure f g a)) _ none.1.1.0)
+    panel_sure a places none = not-false (sure f g a) (cond_none (not (sure f g a)) _ none.1.1.0)
 
     -- a repair is not refused
     repair_granted : (a : Account F) (budget : ℕ) → fault_of f g radix a (repair budget) ≡ None
-    repair_granted a budget = ap (λ b. first_fault (fault_if (not b) WeightOutOfField Decoder ∷ [])) (weights_pass f g fit)
+    repair_granted a budget = rw ((weights_decide f g).1 fit)
 
     -- what is promised at a call whose fault is o
     promised : (o : Option Fault) (a : Account F) (c : Call) (picks : List ℕ) → fault_of f g radix a c ≡ o → Lawful f g a → ByRepair f g radix (Picked f g) o a c picks
@@ -121,10 +120,10 @@ module _ {F : Type 0} (f : FieldModel F) (g : GraphModel) (ok : Valid g) (fit : 
     promised o a (survey s) picks is law legal = tt
     promised o a (load codes) picks is law legal = tt
     promised o a (overwrite p code) picks is law legal = tt
-    promised (Some e) a (repair budget) picks is law legal = absurd (some≢none e (sym is ∙ repair_granted a budget))
+    promised (Some e) a (repair budget) picks is law legal = cc (repair_granted a budget)
     promised None a (repair budget) picks is law legal = repair_promise a law budget picks legal
     promised o a settle picks is law legal = tt
-    promised (Some e) a (panel places) picks is law legal = λ t h. let z : ◌≡◌ {A = ℕ} 0 1 = cc in absurd (omega arith)
+    promised (Some e) a (panel places) picks is law legal = λ t h. cc
     promised None a (panel places) picks is law legal = λ t h.
         let total : spelled f radix (symbols f a.word) places ≡ t = cc in
         subst (SpelledByOnlyNear f g radix a places) total (shows radix a places law (panel_sure a places (not_refused f g radix a (panel places) is)))
@@ -135,41 +134,32 @@ module _ {F : Type 0} (f : FieldModel F) (g : GraphModel) (ok : Valid g) (fit : 
       at_call = subst (λ (n : Next F). AtCall f g radix a c n.answer n.account) t.2 (promised (fault_of f g radix a c) a c t.0 refl law t.1);
     }
 
-    run_promise : (a : Account F) (calls : List Call) (answers : List Answer) (b : Account F) → Lawful f g a → Steps (Takes f g radix) a calls answers b
-        → Steps (λ x c r m. Takes f g radix x c r m × Promise f g radix x c r m) a calls answers b
-    run_promise a [] [] b law h = h
-    run_promise a [] (r ∷ answers) b law h = absurd h
-    run_promise a (c ∷ calls) [] b law h = absurd h
-    run_promise a (c ∷ calls) (r ∷ answers) b law h =
-        (h.0, (h.1, call_promise a c r h.0 law h.1), run_promise h.0 calls answers b (call_keeps f g ok fit radix a c r h.0 law h.1) h.2)
-
 pub one_codeword_is_near_lem : (F : Type 0) → OneCodewordIsNear F
 one_codeword_is_near_lem F f g ok fit a all x y cx cy nx ny = near_one f g ok fit a all x y cx cy nx ny
 
 pub runs_keep_the_promise_lem : (F : Type 0) → RunsKeepThePromise F
-runs_keep_the_promise_lem F f g ok fit radix calls answers b h = run_promise f g ok fit radix (new_account f g) calls answers b (new_lawful f g ok fit) h
+runs_keep_the_promise_lem F f g ok fit radix calls answers b h =
+    steps_keep (Takes f g radix) (λ x c r m. Takes f g radix x c r m × Promise f g radix x c r m) (Lawful f g)
+    (λ x c r m law t. ((t, call_promise f g ok fit radix x c r m law t), call_keeps f g ok fit radix x c r m law t))
+    (new_account f g) calls answers b (new_lawful f g ok fit) h
 
 module _ {F : Type 0} (f : FieldModel F) (g : GraphModel) (radix : ℕ) where
   -- what is granted answers no fault
   no_refusal : (a : Account F) (c : Call) (picks : List ℕ) (e : Fault) → (granted f g radix a c picks).answer ≡ refused e → ⊥
-  no_refusal a (survey s) picks e h = let z : ◌≡◌ {A = ℕ} 0 1 = cc in omega arith
-  no_refusal a (load codes) picks e h = let z : ◌≡◌ {A = ℕ} 0 1 = cc in omega arith
-  no_refusal a (overwrite p code) picks e h = let z : ◌≡◌ {A = ℕ} 0 1 = cc in omega arith
-  no_refusal a (repair budget) picks e h = let z : ◌≡◌ {A = ℕ} 0 1 = cc in omega arith
-  no_refusal a settle picks e h = let z : ◌≡◌ {A = ℕ} 0 1 = cc in omega arith
-  no_refusal a (panel places) picks e h = let z : ◌≡◌ {A = ℕ} 0 1 = cc in omega arith
+  no_refusal a (survey s) picks e h = cc
+  no_refusal a (load codes) picks e h = cc
+  no_refusal a (overwrite p code) picks e h = cc
+  no_refusal a (repair budget) picks e h = cc
+  no_refusal a settle picks e h = cc
+  no_refusal a (panel places) picks e h = cc
 
   refusal : (o : Option Fault) (a : Account F) (c : Call) (picks : List ℕ) (e : Fault)
       → (((taken f g radix o a c picks).answer ≡ refused e) ↔ (o ≡ Some e)) × ((taken f g radix o a c picks).answer ≡ refused e → (taken f g radix o a c picks).account ≡ a)
   refusal (Some d) a c picks e = ((λ h. cc, λ h. cc), λ h. refl)
-  refusal None a c picks e = ((λ h. absurd (no_refusal a c picks e h), λ h. absurd (some≢none e (sym h))), λ h. absurd (no_refusal a c picks e h))
+  refusal None a c picks e = ((λ h. absurd (no_refusal a c picks e h), λ h. cc), λ h. absurd (no_refusal a c picks e h))
 
   misfit : (WeightsFit f g → ⊥) → (a : Account F) (c : Call) → fault_of f g radix a c ≡ Some (record { refusal = WeightOutOfField; layer = Decoder; position = 0 })
-  misfit apart a c =
-      ⊎_elim
-      (λ (t : weights_fit f g ≡ true). absurd (apart (weights_passed f g t)))
-      (λ (t : weights_fit f g ≡ false). ap (λ b. first_fault (fault_if (not b) WeightOutOfField Decoder ∷ call_faults f g radix a c)) t)
-      (cases_Bool (weights_fit f g))
+  misfit apart a c = rw (false_from_ne_true (weights_fit f g) (λ t. apart ((weights_decide f g).0 t)))
 
 pub refusals_leave_the_account_lem : (F : Type 0) → RefusalsLeaveTheAccount F
 refusals_leave_the_account_lem F f g radix a c r b t =

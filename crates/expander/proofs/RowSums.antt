@@ -36,9 +36,7 @@ module _ {F : Type 0} (f : FieldModel F) (g : GraphModel) where
   term_same w x j i e =
       ⊎_elim
       (λ (met : meets g j i ≡ true). ap (f.times (coefficient f g j i)) (e met))
-      (λ (none : meets g j i ≡ false).
-      let z = coefficient_none f g j i none in
-      ap (λ h. f.times h (w i)) z ∙ zero-times f (w i) ∙ sym (zero-times f (x i)) ∙ ap (λ h. f.times h (x i)) (sym z))
+      (λ (none : meets g j i ≡ false). rw (coefficient_none f g j i none, zero-times f, zero-times f))
       (cases_Bool (meets g j i))
 
   -- the sum of a row along which two words agree

@@ -1,6 +1,6 @@
 -- Sums of numbers below a bound, and counts as sums. Assumes nothing.
-use Rattle.std.proofs.Common.{◌≡◌, ℕ, zero, suc, ◌+◌, ◌*◌, ◌<◌, ◌≤◌, Bool, true, false, cond, ◌&&◌, ◌≢◌, sym, refl, ap, ◌∙◌, ap₂, ⊎_elim, add-mul, add_comm, zero-mul, arith}
-use Rattle.std.proofs.lemmas.Bool.{cases_lt, cases_eq, cases_Bool}
+use Rattle.std.proofs.Common.{◌≡◌, ℕ, zero, suc, ◌+◌, ◌*◌, ◌<◌, ◌≤◌, Bool, true, false, cond, ◌&&◌, ◌⊎◌, ◌≢◌, sym, refl, ap, ⊎_elim, add-mul, zero-mul, arith}
+use Rattle.std.proofs.lemmas.Bool.{cases_lt, cases_eq, true_from_ne_false}
 use Rattle.bitsets.specs.Bits.{count}
 
 abbrev pub bit : Bool → ℕ
@@ -28,41 +28,44 @@ sum (suc n) h = sum n h + h n
 pub count-sum : (n : ℕ) (p : ℕ → Bool) → count n p ≡ sum n (λ k. bit (p k))
 unfolding sum count
 count-sum zero p = refl
-count-sum (suc n) p = ap (λ x. bit (p n) + x) (count-sum n p) ∙ add_comm (bit (p n)) (sum n (λ k. bit (p k)))
+count-sum (suc n) p = omega (arith, count-sum n p)
+
+bit_pair : (p q r : Bool) → (p ≡ true → r ≡ true) → (q ≡ true → r ≡ true) → (p ≡ true → q ≡ true → ⊥) → bit p + bit q ≤ bit r
+bit_pair true true r hp hq apart = absurd (apart refl refl)
+bit_pair true false r hp hq apart = omega (arith, ap bit (hp refl))
+bit_pair false q r hp hq apart = omega (arith, bit_le q (bit r) (λ t. omega (arith, ap bit (hq t))))
+
+bit_twice : (p q r s : Bool) → (p ≡ true → (r ≡ true) ⊎ (s ≡ true)) → (q ≡ true → (p ≡ false) × (r ≡ true) × (s ≡ true)) → bit p + 2 * bit q ≤ bit r + bit s
+bit_twice true true r s hp hq = cc (hq refl).0
+bit_twice true false r s hp hq = ⊎_elim (λ t. omega (arith, ap bit t)) (λ t. omega (arith, ap bit t)) (hp refl)
+bit_twice false true r s hp hq = omega (arith, ap bit (hq refl).1, ap bit (hq refl).2)
+bit_twice false false r s hp hq = omega arith
 
 -- what holds of the tests at each number holds of the counts
-pub count_le : (n : ℕ) (p q : ℕ → Bool) → ((k : ℕ) → k < n → bit (p k) ≤ bit (q k)) → count n p ≤ count n q
-unfolding count
-count_le zero p q h = omega arith
-count_le (suc n) p q h = omega (arith, h n (omega arith), count_le n p q (λ k l. h k (omega arith)))
-
-pub count_pair : (n : ℕ) (p q r : ℕ → Bool) → ((k : ℕ) → k < n → bit (p k) + bit (q k) ≤ bit (r k)) → count n p + count n q ≤ count n r
+pub count_pair : (n : ℕ) (p q r : ℕ → Bool)
+    → ((k : ℕ) → k < n → (p k ≡ true → r k ≡ true) × (q k ≡ true → r k ≡ true) × (p k ≡ true → q k ≡ true → ⊥)) → count n p + count n q ≤ count n r
 unfolding count
 count_pair zero p q r h = omega arith
-count_pair (suc n) p q r h = omega (arith, h n (omega arith), count_pair n p q r (λ k l. h k (omega arith)))
+count_pair (suc n) p q r h =
+    let here = h n (omega arith) in omega (arith, bit_pair (p n) (q n) (r n) here.0 here.1 here.2, count_pair n p q r (λ k l. h k (omega arith)))
 
-pub count_cover : (n : ℕ) (p q r : ℕ → Bool) → ((k : ℕ) → k < n → bit (p k) ≤ bit (q k) + bit (r k)) → count n p ≤ count n q + count n r
+pub count_le : (n : ℕ) (p q : ℕ → Bool) → ((k : ℕ) → k < n → p k ≡ true → q k ≡ true) → count n p ≤ count n q
+count_le n p q h = omega (arith, count_pair n p (λ k. false) q (λ k l. (h k l, λ e. cc, λ t e. cc)))
+
+pub count_twice : (n : ℕ) (p q r s : ℕ → Bool) → ((k : ℕ) → k < n → p k ≡ true → (r k ≡ true) ⊎ (s k ≡ true))
+    → ((k : ℕ) → k < n → q k ≡ true → (p k ≡ false) × (r k ≡ true) × (s k ≡ true)) → count n p + 2 * count n q ≤ count n r + count n s
 unfolding count
-count_cover zero p q r h = omega arith
-count_cover (suc n) p q r h = omega (arith, h n (omega arith), count_cover n p q r (λ k l. h k (omega arith)))
+count_twice zero p q r s hp hq = omega arith
+count_twice (suc n) p q r s hp hq =
+    omega (arith, bit_twice (p n) (q n) (r n) (s n) (hp n (omega arith)) (hq n (omega arith)), count_twice n p q r s (λ k l. hp k (omega arith)) (λ k l. hq k (omega arith)))
 
-pub count_twice : (n : ℕ) (p q r s : ℕ → Bool) → ((k : ℕ) → k < n → bit (p k) + 2 * bit (q k) ≤ bit (r k) + bit (s k)) → count n p + 2 * count n q ≤ count n r + count n s
-unfolding count
-count_twice zero p q r s h = omega arith
-count_twice (suc n) p q r s h = omega (arith, h n (omega arith), count_twice n p q r s (λ k l. h k (omega arith)))
-
-pub sum_none : (h : ℕ → ℕ) → sum 0 h ≡ 0
-unfolding sum
-sum_none h = refl
-
-pub sum_more : (n : ℕ) (h : ℕ → ℕ) → sum (suc n) h ≡ sum n h + h n
-unfolding sum
-sum_more n h = refl
+pub count_cover : (n : ℕ) (p r s : ℕ → Bool) → ((k : ℕ) → k < n → p k ≡ true → (r k ≡ true) ⊎ (s k ≡ true)) → count n p ≤ count n r + count n s
+count_cover n p r s h = omega (arith, count_twice n p (λ k. false) r s h (λ k l e. cc))
 
 pub sum_same : (n : ℕ) (h k : ℕ → ℕ) → ((i : ℕ) → i < n → h i ≡ k i) → sum n h ≡ sum n k
 unfolding sum
 sum_same zero h k e = refl
-sum_same (suc n) h k e = ap₂ (λ x y. x + y) (sum_same n h k (λ i l. e i (omega arith))) (e n (omega arith))
+sum_same (suc n) h k e = omega (arith, sum_same n h k (λ i l. e i (omega arith)), e n (omega arith))
 
 pub sum_le : (n : ℕ) (h k : ℕ → ℕ) → ((i : ℕ) → i < n → h i ≤ k i) → sum n h ≤ sum n k
 unfolding sum
@@ -87,7 +90,7 @@ sum-times (suc n) c h = omega (arith, sum-times n c h, add-mul (sum n h) (h n) c
 pub sum_swap : (n m : ℕ) (h : ℕ → ℕ → ℕ) → sum n (λ i. sum m (h i)) ≡ sum m (λ j. sum n (λ i. h i j))
 unfolding sum
 sum_swap zero m h = sym (sum-zero m (λ j. 0) (λ j l. refl))
-sum_swap (suc n) m h = ap (λ x. x + sum m (h n)) (sum_swap n m h) ∙ sym (sum-add m (λ j. sum n (λ i. h i j)) (h n))
+sum_swap (suc n) m h = omega (arith, sum_swap n m h, sum-add m (λ j. sum n (λ i. h i j)) (h n))
 
 -- a sum is what stands at one number, if nothing stands at the others
 pub sum_single : (n i : ℕ) (h : ℕ → ℕ) → i < n → ((k : ℕ) → k < n → k ≢ i → h k ≡ 0) → sum n h ≡ h i
@@ -95,8 +98,8 @@ unfolding sum
 sum_single zero i h l e = absurd (omega arith)
 sum_single (suc n) i h l e =
     ⊎_elim
-    (λ (same : i ≡ n). ap₂ (λ x y. x + y) (sum-zero n h (λ k b. e k (omega arith) (omega arith))) (ap h (sym same)) ∙ omega arith)
-    (λ (apart : i ≡ n → ⊥). let here = e n (omega arith) (λ s. apart (sym s)) in omega (arith, sum_single n i h (omega arith) (λ k b. e k (omega arith))))
+    (λ (same : i ≡ n). omega (arith, sum-zero n h (λ k b. e k (omega arith) (omega arith)), ap h same))
+    (λ (apart : i ≡ n → ⊥). omega (arith, e n (omega arith) (omega arith), sum_single n i h (omega arith) (λ k b. e k (omega arith))))
     (cases_eq i n)
 
 pub sum_member : (n i : ℕ) (h : ℕ → ℕ) → i < n → h i ≤ sum n h
@@ -118,25 +121,17 @@ sum_exceeds (suc n) h k l =
     (λ (below : k n ≤ h n). let r = sum_exceeds n h k (omega arith) in (r.0, omega (arith, r.1), r.2))
     (cases_lt (h n) (k n))
 
--- two summands are part of the sum
-pub sum_pair : (n i k : ℕ) (h : ℕ → ℕ) → i < n → k < n → k ≢ i → h i + h k ≤ sum n h
-unfolding sum
-sum_pair zero i k h li lk apart = absurd (omega arith)
-sum_pair (suc n) i k h li lk apart =
-    ⊎_elim
-    (λ (here : i ≡ n). omega (arith, ap h here, sum_member n k h (omega arith)))
-    (λ (below : i ≡ n → ⊥).
-    ⊎_elim
-    (λ (there : k ≡ n). omega (arith, ap h there, sum_member n i h (omega arith)))
-    (λ (less : k ≡ n → ⊥). omega (arith, sum_pair n i k h (omega arith) (omega arith) apart))
-    (cases_eq k n))
-    (cases_eq i n)
-
 -- a sum that is 1 has one summand of 1, and nothing elsewhere
 pub one_in : (n : ℕ) (h : ℕ → ℕ) → sum n h ≡ 1 → (i : ℕ) × (i < n) × (h i ≡ 1) × ((k : ℕ) → k < n → k ≢ i → h k ≡ 0)
-one_in n h e =
-    let r = sum_exceeds n (λ k. 0) h (omega (arith, sum-zero n (λ k. 0) (λ k l. refl))) in
-    (r.0, r.1, omega (arith, r.2, sum_member n r.0 h r.1), λ k l apart. omega (arith, r.2, sum_pair n r.0 k h r.1 l apart))
+unfolding sum
+one_in zero h e = absurd (omega arith)
+one_in (suc n) h e =
+    ⊎_elim
+    (λ (none : h n ≡ 0).
+    let r = one_in n h (omega arith) in
+    (r.0, omega (arith, r.1), r.2, λ k l apart. ⊎_elim (λ (same : k ≡ n). cc) (λ (less : k ≡ n → ⊥). r.3 k (omega arith) apart) (cases_eq k n)))
+    (λ some. (n, omega arith, omega arith, λ k l apart. omega (arith, sum_member n k h (omega arith))))
+    (cases_eq (h n) 0)
 
 pub sum_ones : (n : ℕ) → sum n (λ k. 1) ≡ n
 unfolding sum
@@ -147,4 +142,4 @@ sum_ones (suc n) = omega (arith, sum_ones n)
 pub counted : (n : ℕ) (p : ℕ → Bool) → 0 < count n p → (k : ℕ) × (k < n) × (p k ≡ true)
 counted n p h =
     let r = sum_exceeds n (λ k. 0) (λ k. bit (p k)) (omega (arith, count-sum n p, sum-zero n (λ k. 0) (λ k l. refl))) in
-    (r.0, r.1, ⊎_elim (λ t. t) (λ e. absurd (omega (arith, r.2, ap bit e))) (cases_Bool (p r.0)))
+    (r.0, r.1, true_from_ne_false (p r.0) (λ e. omega (arith, r.2, ap bit e)))

@@ -6,10 +6,7 @@ use Rattle.refusals.specs.Faults.{number_of}
 use Rattle.refusals.specs.declared.faults.Refusal.TheVariants.{NotSure}
 use Rattle.refusals.specs.declared.faults.Layer.{Layer}
 use Rattle.refusals.specs.declared.faults.Layer.TheVariants.{Line, Decoder, Window}
-use Rattle.fields.specs.declared.elements.Gf2.{Gf2}
-use Rattle.fields.specs.declared.elements.Gf101.{Gf101}
-use Rattle.fields.specs.Bits.{bits}
-use Rattle.fields.specs.Fields.{remainders}
+use Rattle.fields.specs.Fields.{Gf2, Gf101, bits, remainders}
 use Rattle.graphs.specs.Models.{GraphModel}
 use Rattle.graphs.specs.LiftFiles.{lift_model}
 use Rattle.graphs.specs.ListedFiles.{listed_model}

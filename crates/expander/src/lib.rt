@@ -1,7 +1,8 @@
 #![tactic(auto)]
 
 // The mathematics of the sequential repair: words over a graph, votes, sets that expand, and the account of a list of calls,
-// with the theorems about them. Each function carries one theorem in its contract and does nothing.
+// with the theorems about them. Each function carries one theorem in its contract and does nothing. Its proof is named in an
+// attribute where the tactics find it so; where they open the statement first and lose the way, it is cited in `proofs/`.
 pub mod accounts;
 pub mod outcomes;
 pub mod sets;
