@@ -1,11 +1,12 @@
 #![tactic(auto)]
 
 // Prints the card of each graph file that the arguments name: its numbers and, where it is small, its rows.
-ghost use Rattle.std.specs.Prelude.{◌≤◌, length};
+ghost use Rattle.std.specs.Prelude.{◌≤◌, length, IfOk};
 
 use anyhow::anyhow;
-use graphs::{Graph, Lift, LiftFile, Listed, ListedFile};
+use graphs::{FileGraph, Graph, GraphFile, Shape};
 use refusals::{Place, Row};
+use std::str::FromStr;
 use std::{env, fs, io};
 
 const USAGE: &str =
@@ -14,67 +15,76 @@ const USAGE: &str =
 // A graph with more rows than this has its numbers printed, and not its rows.
 const MOST_ROWS: usize = 16;
 
+// What a word says a file is. The graphs keep the form of a file inside its shape, so it is told from the word here.
 #[derive(Clone, Copy)]
 enum Kind {
     Listed,
     Lift,
 }
 
-impl Kind {
-    fn named(word: &str) -> Option<Kind> {
+// A word that names no kind of graph file.
+#[derive(Clone, Copy)]
+struct UnknownKind;
+
+impl FromStr for Kind {
+    type Err = UnknownKind;
+
+    fn from_str(word: &str) -> Result<Kind, UnknownKind> {
         match word {
-            "listed" => Some(Kind::Listed),
-            "lift" => Some(Kind::Lift),
-            _ => None,
+            "listed" => Ok(Kind::Listed),
+            "lift" => Ok(Kind::Lift),
+            _ => Err(UnknownKind),
+        }
+    }
+}
+
+// Why the words after a file's name give no shape.
+#[derive(Clone, Copy)]
+enum Flaw<'w> {
+    CutShort,
+    NotANumber(&'w str),
+}
+
+impl Kind {
+    // How many numbers a graph of this kind is opened with.
+    fn numbers(self) -> usize
+        ensures low { 3 ≤ result }
+        ensures high { result ≤ 4 }
+    {
+        match self {
+            Kind::Listed => 3,
+            Kind::Lift => 4,
         }
     }
 
-    // How many words a group of this kind has.
-    fn words(self) -> usize
-        ensures { (5 ≤ result) × (result ≤ 6) }
-    {
-        match self {
-            Kind::Listed => 5,
-            Kind::Lift => 6,
+    // The shape that these words spell.
+    fn shape(self, words: &[String]) -> Result<Shape, Flaw<'_>> {
+        match (self, words) {
+            (Kind::Listed, [n, m, c]) => Ok(Shape::listed(number(n)?, number(m)?, number(c)?)),
+            (Kind::Lift, [a, b, l, c]) => {
+                Ok(Shape::lift(number(a)?, number(b)?, number(l)?, number(c)?))
+            }
+            _ => Err(Flaw::CutShort),
         }
     }
 }
 
 // The number that `word` spells in decimal digits.
-fn number(word: &str) -> Option<usize> {
-    for b in word.bytes() {
-        if !b.is_ascii_digit() {
-            return None;
-        }
+fn number(word: &String) -> Result<usize, Flaw<'_>> {
+    let word = word.as_str();
+    if !word.bytes().all(|b| b.is_ascii_digit()) {
+        return Err(Flaw::NotANumber(word));
     }
-    word.parse::<usize>().ok()
-}
-
-// The numbers that `words` spell, at most four, or the first word that spells none.
-fn sizes(words: &[String]) -> Result<[usize; 4], &str> {
-    let mut all = [0; 4];
-    for (i, word) in words.iter().enumerate() {
-        let Some(size) = number(word.as_str()) else {
-            return Err(word.as_str());
-        };
-        if i < 4 {
-            all[i] = size;
-        }
-    }
-    Ok(all)
+    word.parse().map_err(|_| Flaw::NotANumber(word))
 }
 
 fn row_line<G: Graph>(rt: &HostRuntime, graph: &G, row: Row) -> anyhow::Result<()> {
-    let number = row.0;
-    print!(rt; "row {number} meets")?;
+    print!(rt; "row {} meets", row.0)?;
     let mut from = Place(0);
-    for _ in 0..graph.places() {
-        let Some(meeting) = graph.next_place(row, from) else {
-            break;
-        };
+    while let Some(meeting) = graph.next_place(row, from) {
         let place = meeting.place.0;
         print!(rt; " {place}")?;
-        from = Place(place.saturating_add(1));
+        from = Place(place + 1);
     }
     println!(rt; "")?;
     Ok(())
@@ -87,86 +97,69 @@ fn card<G: Graph>(rt: &HostRuntime, graph: &G) -> anyhow::Result<()> {
     let edges = places.saturating_mul(degree);
     println!(rt; "{places} places, {rows} rows, degree {degree}, {edges} edges")?;
     if rows <= MOST_ROWS {
-        for j in 0..rows {
-            row_line(rt, graph, Row(j as u16))?;
+        for j in 0..rows as u16 {
+            row_line(rt, graph, Row(j))?;
         }
     }
     Ok(())
 }
 
 // Opens the bytes of a file and prints the card, or the fault's line.
-fn open(rt: &HostRuntime, kind: Kind, bytes: &[u8], sizes: [usize; 4]) -> anyhow::Result<()> {
-    match kind {
-        Kind::Listed => match ListedFile::check(bytes, sizes[0], sizes[1], sizes[2]) {
-            Ok(file) => card(rt, &Listed::new(file)),
-            Err(fault) => Ok(rt.println(fault)?),
-        },
-        Kind::Lift => match LiftFile::check(bytes, sizes[0], sizes[1], sizes[2], sizes[3]) {
-            Ok(file) => card(rt, &Lift::new(file)),
-            Err(fault) => Ok(rt.println(fault)?),
-        },
+fn open(rt: &HostRuntime, bytes: &[u8], shape: Shape) -> anyhow::Result<()> {
+    match GraphFile::check(bytes, shape) {
+        Ok(file) => card(rt, &FileGraph::new(file)),
+        Err(fault) => Ok(rt.println(fault)?),
     }
 }
 
-// How many words stand before the next word, at `from` or after it, that begins a group.
-fn span(words: &[String], from: usize) -> usize
+// How many words stand before the next one that begins a group.
+fn span(words: &[String]) -> usize
     ensures { result ≤ length words.now }
 {
-    for at in from..words.len() {
-        if Kind::named(words[at].as_str()).is_some() {
-            return at;
-        }
-    }
-    words.len()
+    let begins = |word: &String| word.parse::<Kind>().is_ok();
+    words.iter().position(begins).unwrap_or(words.len())
 }
 
-// Prints what the group at the front of `words` is, and answers how many words it had.
-fn group(rt: &HostRuntime, words: &[String]) -> anyhow::Result<usize> {
-    let Some(first) = words.first() else {
-        return Ok(0);
-    };
-    let Some(kind) = Kind::named(first.as_str()) else {
+// Prints what the group is that `first` begins, and answers the words after it.
+fn group<'w>(rt: &HostRuntime, first: &String, rest: &'w [String]) -> anyhow::Result<&'w [String]>
+    ensures { IfOk result (λ left. length left.now ≤ length rest.now) }
+{
+    let Ok(kind) = first.parse::<Kind>() else {
         println!(rt; "{first}: neither listed nor lift")?;
-        return Ok(span(words, 1));
+        return Ok(&rest[span(rest)..]);
     };
-    let count = kind.words();
-    // The second word is a file's name, whatever it spells.
-    let end = span(words, 2);
-    if end < count {
+    // The word after the first is a file's name, whatever it spells.
+    let Some((file, rest)) = rest.split_first() else {
         println!(rt; "{first}: the group is cut short")?;
-        return Ok(end);
+        return Ok(rest);
+    };
+    let (numbers, rest) = rest.split_at(span(rest).min(kind.numbers()));
+    match kind.shape(numbers) {
+        Err(Flaw::CutShort) => println!(rt; "{first}: the group is cut short")?,
+        Err(Flaw::NotANumber(word)) => println!(rt; "{first} {file}: {word} is not a number")?,
+        Ok(shape) => {
+            print!(rt; "{first} {file}: ")?;
+            match fs::read(rt, file.as_str()) {
+                Err(_) => println!(rt; "not a file that can be read")?,
+                Ok(bytes) => open(rt, bytes.as_slice(), shape)?,
+            }
+        }
     }
-    let file = words[1].as_str();
-    print!(rt; "{first} {file}: ")?;
-    match sizes(&words[2..count]) {
-        Err(word) => println!(rt; "{word} is not a number")?,
-        Ok(sizes) => match fs::read(rt, file) {
-            Err(_) => println!(rt; "not a file that can be read")?,
-            Ok(bytes) => open(rt, kind, bytes.as_slice(), sizes)?,
-        },
-    }
-    Ok(count)
+    Ok(rest)
 }
 
 fn cards(rt: &HostRuntime) -> anyhow::Result<()> {
-    let args = match env::args(rt) {
-        Ok(args) => args,
-        Err(error) => {
-            if error.kind() == io::ErrorKind::InvalidData {
-                return Err(anyhow!("\"an argument is not UTF-8\""));
-            }
-            return Err(error.into());
-        }
-    };
+    let args = env::args(rt).map_err(|error| match error.kind() {
+        io::ErrorKind::InvalidData => anyhow!("\"an argument is not UTF-8\""),
+        _ => error.into(),
+    })?;
     let words: Vec<String> = args.skip(1).collect(rt.alloc())?;
     if words.is_empty() {
         rt.println(USAGE)?;
     }
-    let mut next = 0;
-    for at in 0..words.len() {
-        if at == next {
-            next = at.saturating_add(group(rt, &words[at..])?);
-        }
+    let mut words = words.as_slice();
+    while let Some((first, rest)) = words.split_first() {
+        words = group(rt, first, rest)?;
     }
     Ok(())
 }
