@@ -67,7 +67,7 @@ not_before V (inl l) = omega arith
 not_before V (inr h) = not_lexicographic V h.1
 
 -- there are as many sets as are chosen
-length_from : (low rest k : ℕ) → length (sets_from low rest k) ≡ choose rest k
+pub length_from : (low rest k : ℕ) → length (sets_from low rest k) ≡ choose rest k
 unfolding sets_from choose
 length_from low zero zero = refl
 length_from low zero (suc k) = refl
@@ -87,7 +87,7 @@ empty_sound : (low n : ℕ) → All (SetOf low n 0) ([] ∷ [])
 empty_sound low n = All-cons (SetOf low n 0) [] [] (record { size = refl; rising = tt }) (All-nil (SetOf low n 0))
 
 -- every list that sets-from holds is a set
-from_sound : (low rest n k : ℕ) → low + rest ≡ n → All (SetOf low n k) (sets_from low rest k)
+pub from_sound : (low rest n k : ℕ) → low + rest ≡ n → All (SetOf low n k) (sets_from low rest k)
 unfolding sets_from
 from_sound low zero n zero e = empty_sound low n
 from_sound low zero n (suc k) e = All-nil (SetOf low n (suc k))
@@ -151,7 +151,7 @@ module _ (n : ℕ) where
   sized_sound k = from_sound 0 n n k (omega arith)
 
   -- every list that sets-up-to holds is a set
-  up_to_sound : (s : ℕ) → All (SetUpTo n s) (sets_up_to n s)
+  pub up_to_sound : (s : ℕ) → All (SetUpTo n s) (sets_up_to n s)
   unfolding sets_up_to
   up_to_sound zero = All-nil (SetUpTo n 0)
   up_to_sound (suc s) =

@@ -9,28 +9,28 @@ use Rattle.expander.specs.Expansion.{expands, AllExpand, Seen, seen, level_of, F
 use Rattle.expander.proofs.SetLists.{resized, sets_in_order}
 
 -- one more set was looked at before
-abbrev one_more : Seen → Seen
+abbrev pub one_more : Seen → Seen
 one_more r = record { sets = suc r.sets; failing = r.failing }
 
 module _ (test : List ℕ → Bool) where
   -- a set that passes is counted, and the others are looked at
-  seen_next : (V : List ℕ) (Vs : List (List ℕ)) → test V ≡ true → seen test (V ∷ Vs) ≡ one_more (seen test Vs)
+  pub seen_next : (V : List ℕ) (Vs : List (List ℕ)) → test V ≡ true → seen test (V ∷ Vs) ≡ one_more (seen test Vs)
   unfolding seen
   seen_next V Vs e = rw (e, seen)
 
   -- a set that fails is the last to be looked at
-  seen_fail : (V : List ℕ) (Vs : List (List ℕ)) → test V ≡ false → seen test (V ∷ Vs) ≡ record { sets = 1; failing = V }
+  pub seen_fail : (V : List ℕ) (Vs : List (List ℕ)) → test V ≡ false → seen test (V ∷ Vs) ≡ record { sets = 1; failing = V }
   unfolding seen
   seen_fail V Vs e = rw (e, seen)
 
   -- where every set passes, every set is counted
-  seen_all : (Vs : List (List ℕ)) → AllPass test Vs → seen test Vs ≡ record { sets = length Vs; failing = [] }
+  pub seen_all : (Vs : List (List ℕ)) → AllPass test Vs → seen test Vs ≡ record { sets = length Vs; failing = [] }
   unfolding seen
   seen_all [] h = refl
   seen_all (V ∷ Vs) h = seen_next V Vs (h 0 [] (omega arith)) ∙ ap one_more (seen_all Vs (λ k d l. h (suc k) d (omega arith)))
 
   -- where set k is the first that fails, it is the last to be looked at
-  seen_first : (Vs : List (List ℕ)) (k : ℕ) → FailsFirst test Vs k → seen test Vs ≡ record { sets = suc k; failing = get_or Vs k [] }
+  pub seen_first : (Vs : List (List ℕ)) (k : ℕ) → FailsFirst test Vs k → seen test Vs ≡ record { sets = suc k; failing = get_or Vs k [] }
   seen_first [] k h = absurd (omega arith)
   seen_first (V ∷ Vs) zero h = seen_fail V Vs h.fails
   seen_first (V ∷ Vs) (suc k) h =
@@ -47,7 +47,7 @@ module _ (test : List ℕ → Bool) where
       (cases_lt (prefix_len test Vs) (length Vs))
 
 -- the level is one below the size of a failing set
-level_below : (s : ℕ) (V : List ℕ) → 1 ≤ length V → suc (level_of s V) ≡ length V
+pub level_below : (s : ℕ) (V : List ℕ) → 1 ≤ length V → suc (level_of s V) ≡ length V
 level_below s [] h = absurd (omega arith)
 level_below s (p ∷ V) h = refl
 

@@ -64,6 +64,10 @@ abbrev pub first_fault : List (Option Fault) → Option Fault
 first_fault [] = None
 first_fault (x ∷ faults) = or_else x (first_fault faults)
 
+-- what may refuse a survey of size s over n places
+abbrev pub survey_faults : ℕ → ℕ → List (Option Fault)
+survey_faults n s = fault_if (nat_lt 8 s || nat_lt n s) SurveySize Decoder ∷ fault_if (nat_lt 4294967295 (number_of_sets n s)) SurveyTooLong Decoder ∷ []
+
 -- the number that the symbols at the listed places spell in the radix, the first place highest
 abbrev pub spelled : {F : Type 0} → FieldModel F → ℕ → (ℕ → F) → List ℕ → ℕ
 spelled f radix w [] = 0
@@ -118,10 +122,7 @@ module _ {F : Type 0} (f : FieldModel F) (g : GraphModel) where
   module _ (radix : ℕ) where
     -- what may refuse a call beside the weights, in the order of the numbers
     abbrev pub call_faults : Account F → Call → List (Option Fault)
-    call_faults a (survey s) =
-        fault_if (nat_lt 8 s || nat_lt g.places s) SurveySize Decoder
-        ∷ fault_if (nat_lt 4294967295 (number_of_sets g.places s)) SurveyTooLong Decoder
-        ∷ []
+    call_faults a (survey s) = survey_faults g.places s
     call_faults a (load codes) =
         fault_if (not (length codes == g.places)) FeedLength Line
         ∷ fault_at (λ i. leb f.size (slice_index codes i)) (length codes) CodeOutOfField Line
