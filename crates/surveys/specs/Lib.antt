@@ -1,0 +1,4 @@
+pub mod Tables
+pub mod PascalRows
+pub mod Members
+pub mod Answers
