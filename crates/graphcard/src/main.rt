@@ -1,6 +1,6 @@
 #![tactic(auto)]
 
-// Prints the card of each graph file that the arguments name: its numbers and, where it is small, its rows.
+// Prints the card of each graph file that the arguments name: its numbers, where it is small its rows, and a survey.
 ghost use Rattle.std.specs.Prelude.{◌≤◌, length, IfOk};
 
 use anyhow::anyhow;
@@ -8,9 +8,10 @@ use graphs::{FileGraph, Graph, GraphFile, Shape};
 use refusals::{Place, Row};
 use std::str::FromStr;
 use std::{env, fs, io};
+use surveys::RowTable;
 
 const USAGE: &str =
-    "usage: graphcard GROUP.. where a GROUP is: listed FILE n m c, or: lift FILE a b L c";
+    "usage: graphcard GROUP.. where a GROUP is: listed FILE n m c S, or: lift FILE a b L c S";
 
 // A graph with more rows than this has its numbers printed, and not its rows.
 const MOST_ROWS: usize = 16;
@@ -38,7 +39,7 @@ impl FromStr for Kind {
     }
 }
 
-// Why the words after a file's name give no shape.
+// Why the words after a file's name give no sizes.
 #[derive(Clone, Copy)]
 enum Flaw<'w> {
     CutShort,
@@ -46,23 +47,27 @@ enum Flaw<'w> {
 }
 
 impl Kind {
-    // How many numbers a graph of this kind is opened with.
+    // How many numbers stand behind a file of this kind: those that it is opened with, and the size of a survey.
     fn numbers(self) -> usize
-        ensures low { 3 ≤ result }
-        ensures high { result ≤ 4 }
+        ensures low { 4 ≤ result }
+        ensures high { result ≤ 5 }
     {
         match self {
-            Kind::Listed => 3,
-            Kind::Lift => 4,
+            Kind::Listed => 4,
+            Kind::Lift => 5,
         }
     }
 
-    // The shape that these words spell.
-    fn shape(self, words: &[String]) -> Result<Shape, Flaw<'_>> {
+    // The shape and the size of a survey that these words spell.
+    fn sizes(self, words: &[String]) -> Result<(Shape, usize), Flaw<'_>> {
         match (self, words) {
-            (Kind::Listed, [n, m, c]) => Ok(Shape::listed(number(n)?, number(m)?, number(c)?)),
-            (Kind::Lift, [a, b, l, c]) => {
-                Ok(Shape::lift(number(a)?, number(b)?, number(l)?, number(c)?))
+            (Kind::Listed, [n, m, c, s]) => {
+                let shape = Shape::listed(number(n)?, number(m)?, number(c)?);
+                Ok((shape, number(s)?))
+            }
+            (Kind::Lift, [a, b, l, c, s]) => {
+                let shape = Shape::lift(number(a)?, number(b)?, number(l)?, number(c)?);
+                Ok((shape, number(s)?))
             }
             _ => Err(Flaw::CutShort),
         }
@@ -104,10 +109,35 @@ fn card<G: Graph>(rt: &HostRuntime, graph: &G) -> anyhow::Result<()> {
     Ok(())
 }
 
-// Opens the bytes of a file and prints the card, or the fault's line.
-fn open(rt: &HostRuntime, bytes: &[u8], shape: Shape) -> anyhow::Result<()> {
+// Surveys a graph and prints what is told, or the fault's line.
+fn survey_line<G: Graph>(rt: &HostRuntime, graph: &G, size: usize) -> anyhow::Result<()> {
+    let table = RowTable::of(rt.alloc(), graph)?;
+    print!(rt; "survey {size}: ")?;
+    if let Err(fault) = table.check_size(size) {
+        return Ok(rt.println(fault)?);
+    }
+    let survey = table.survey(size);
+    print!(rt; "level {}, {} sets, ", survey.level, survey.sets)?;
+    if !survey.found {
+        println!(rt; "none failing")?;
+        return Ok(());
+    }
+    print!(rt; "failing at")?;
+    for place in survey.failing.as_slice() {
+        print!(rt; " {}", place.0)?;
+    }
+    println!(rt; "")?;
+    Ok(())
+}
+
+// Opens the bytes of a file and prints the card and the survey, or the fault's line.
+fn open(rt: &HostRuntime, bytes: &[u8], shape: Shape, size: usize) -> anyhow::Result<()> {
     match GraphFile::check(bytes, shape) {
-        Ok(file) => card(rt, &FileGraph::new(file)),
+        Ok(file) => {
+            let graph = FileGraph::new(file);
+            card(rt, &graph)?;
+            survey_line(rt, &graph, size)
+        }
         Err(fault) => Ok(rt.println(fault)?),
     }
 }
@@ -134,14 +164,14 @@ fn group<'w>(rt: &HostRuntime, first: &String, rest: &'w [String]) -> anyhow::Re
         return Ok(rest);
     };
     let (numbers, rest) = rest.split_at(span(rest).min(kind.numbers()));
-    match kind.shape(numbers) {
+    match kind.sizes(numbers) {
         Err(Flaw::CutShort) => println!(rt; "{first}: the group is cut short")?,
         Err(Flaw::NotANumber(word)) => println!(rt; "{first} {file}: {word} is not a number")?,
-        Ok(shape) => {
+        Ok((shape, size)) => {
             print!(rt; "{first} {file}: ")?;
             match fs::read(rt, file.as_str()) {
                 Err(_) => println!(rt; "not a file that can be read")?,
-                Ok(bytes) => open(rt, bytes.as_slice(), shape)?,
+                Ok(bytes) => open(rt, bytes.as_slice(), shape, size)?,
             }
         }
     }
