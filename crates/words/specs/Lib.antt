@@ -1,0 +1,4 @@
+pub mod Tables
+pub mod EdgeLinks
+pub mod Neighbours
+pub mod Offers
