@@ -38,18 +38,19 @@ module _ {F : Type 0} (f : FieldModel F) (n : ℕ) where
   pub distance_flip : (w x : ℕ → F) → distance f n w x ≡ distance f n x w
   distance_flip w x = omega (arith, triangle x w x, triangle w x w, distance_self x, distance_self w)
 
-  -- a symbol that is put at one place leaves the others, and moves the word by at most one
+  -- a symbol that is put at one place leaves the others
   pub put_others : (w : List F) (i : ℕ) (s : F) (a : ℕ) → a < n → a ≢ i → symbols f (set w i s) a ≡ symbols f w a
   put_others w i s a l apart = get_or-set_other w i a s (f.element 0) apart
 
-  one_apart : (w : List F) (i : ℕ) (s : F) → i < n → distance f n (symbols f w) (symbols f (set w i s)) ≤ 1
-  one_apart w i s l =
-      let x = symbols f (set w i s) in
-      let single = sum_single n i (λ k. bit (differ f (symbols f w) x k)) l (λ k h apart. equal_0 f (symbols f w) x k (sym (put_others w i s k h apart))) in
-      omega (arith, distance-sum (symbols f w) x, single, bit_low (differ f (symbols f w) x i))
+  -- words that agree but at place i differ in at most one
+  pub one_apart : (w x : ℕ → F) (i : ℕ) → i < n → ((a : ℕ) → a < n → a ≢ i → x a ≡ w a) → distance f n w x ≤ 1
+  one_apart w x i l others =
+      let single = sum_single n i (λ k. bit (differ f w x k)) l (λ k h apart. equal_0 f w x k (sym (others k h apart))) in
+      omega (arith, distance-sum w x, single, bit_low (differ f w x i))
 
-  pub one_more : (w : List F) (i : ℕ) (s : F) (y : ℕ → F) → i < n → distance f n (symbols f (set w i s)) y ≤ distance f n (symbols f w) y + 1
-  one_more w i s y l = omega (arith, triangle (symbols f w) (symbols f (set w i s)) y, one_apart w i s l)
+  -- such a word is further from a third by at most one
+  pub one_more : (w x y : ℕ → F) (i : ℕ) → i < n → ((a : ℕ) → a < n → a ≢ i → x a ≡ w a) → distance f n x y ≤ distance f n w y + 1
+  one_more w x y i l others = omega (arith, triangle w x y, one_apart w x i l others)
 
   -- words of one length that do not differ are one
   pub no_distance : (w x : List F) → length w ≡ n → length x ≡ n → distance f n (symbols f w) (symbols f x) ≡ 0 → w ≡ x

@@ -145,7 +145,7 @@ module _ {F : Type 0} (f : FieldModel F) (g : GraphModel) (ok : Valid g) (fit : 
 
   module _ (t : ℕ) (all : AllExpand g t) (some : 1 ≤ distance f g.places w x) (few : distance f g.places w x ≤ t) where
     -- more than half of c × the errors are met once
-    many_once : g.degree * distance f g.places w x < 2 * once
+    pub many_once : g.degree * distance f g.places w x < 2 * once
     many_once =
         let up = chosen_rising (differ f w x) g.places g.places [] (omega arith) tt in
         let more = unique_rows_abound_lem g ok wrong up (all wrong (record { rising = up; some = omega (arith, wrong_long); few = omega (arith, wrong_long) })) in

@@ -21,7 +21,7 @@ use Rattle.expander.specs.Promises.{errors, Lawful, CallsKeepTheLaw}
 use Rattle.expander.proofs.OpenRows.{open_errors, few_opened, changes_close_rows_lem}
 use Rattle.expander.proofs.Expanding.{errors_open}
 use Rattle.expander.proofs.Surveys.{surveys_tell}
-use Rattle.expander.proofs.Distances.{one_more}
+use Rattle.expander.proofs.Distances.{one_more, put_others}
 use Rattle.expander.proofs.RepairResults.{ranked_by}
 
 -- none of the faults is there
@@ -71,15 +71,18 @@ module _ {F : Type 0} (f : FieldModel F) (g : GraphModel) (ok : Valid g) (fit : 
   put : (a : Account F) → Lawful f g a → (p : ℕ) (s : F) → p < g.places
       → Lawful f g (record { base = a.base; word = set a.word p s; overwrites = a.overwrites + 1; changes = a.changes; level = a.level })
   put a law p s hp =
+      let w = symbols f a.word in
+      let v = symbols f (set a.word p s) in
+      let others = put_others f g.places a.word p s in
       record {
         base_long = law.base_long;
         word_long = length-set a.word p s ∙ law.word_long;
         expanding = law.expanding;
-        bounded = λ x code. omega (arith, law.bounded x code, few_opened f g ok a.word p s hp);
+        bounded = λ x code. omega (arith, law.bounded x code, few_opened f g ok w v p hp others);
         within = λ x t code up near.
             let before = law.within x t code up (omega arith) in
-            let less = room (symbols f a.word) (symbols f x) code.closed t (errors f g a x + a.overwrites) up (omega (arith, law.bounded x code)) (omega arith) (omega arith) before in
-            omega (arith, less, one_more f g.places a.word p s (symbols f x) hp);
+            let less = room w (symbols f x) code.closed t (errors f g a x + a.overwrites) up (omega (arith, law.bounded x code)) (omega arith) (omega arith) before in
+            omega (arith, less, one_more f g.places w v (symbols f x) p hp others);
       }
 
   -- the change of a place of a rank above 0 closes a row
@@ -97,7 +100,8 @@ module _ {F : Type 0} (f : FieldModel F) (g : GraphModel) (ok : Valid g) (fit : 
 
   make : (a : Account F) → Lawful f g a → (p : ℕ) → p < g.places → 0 < rank f g (symbols f a.word) p → Lawful f g (after_change a p)
   make a law p hp some =
-      let s = f.plus (symbols f a.word p) (change f g (symbols f a.word) p) in
+      let w = symbols f a.word in
+      let s = f.plus (w p) (change f g w p) in
       let fewer = change_closes a.word p law.word_long hp some in
       record {
         base_long = law.base_long;
@@ -107,8 +111,8 @@ module _ {F : Type 0} (f : FieldModel F) (g : GraphModel) (ok : Valid g) (fit : 
         within = λ x t code up near.
             let bound = law.bounded x code in
             let some : 0 < errors f g a x + a.overwrites = lt_of_mul-lt-mul_left g.degree (omega (arith, bound, fewer, mul-zero g.degree)) in
-            let less = room (symbols f a.word) (symbols f x) code.closed t (errors f g a x + a.overwrites) up (omega (arith, bound)) near (omega (arith, some)) (law.within x t code up near) in
-            omega (arith, less, one_more f g.places a.word p s (symbols f x) hp);
+            let less = room w (symbols f x) code.closed t (errors f g a x + a.overwrites) up (omega (arith, bound)) near (omega (arith, some)) (law.within x t code up near) in
+            omega (arith, less, one_more f g.places w (symbols f (set a.word p s)) (symbols f x) p hp (put_others f g.places a.word p s));
       }
 
   -- the account after the changes of the picks

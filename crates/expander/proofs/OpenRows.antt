@@ -1,5 +1,5 @@
 -- How the open rows follow one symbol, and how many there are beside a codeword. Assumes nothing.
-use Rattle.std.proofs.Common.{◌≡◌, ℕ, ◌+◌, ◌*◌, ◌<◌, ◌≤◌, true, false, not, ◌⊎◌, List, set, sym, ap, ◌∙◌, inl, inr, ⊎_elim, mul_comm, arith, get_or-set_same}
+use Rattle.std.proofs.Common.{◌≡◌, ℕ, ◌+◌, ◌*◌, ◌<◌, ◌≤◌, true, false, not, ◌⊎◌, ◌≢◌, List, set, sym, ap, ◌∙◌, inl, inr, ⊎_elim, mul_comm, arith, get_or-set_same}
 use Rattle.std.proofs.lemmas.Bool.{not-false, not_from_true, true_from_ne_false, false_from_ne_true, cases_lt, cases_Bool}
 use Rattle.bitsets.specs.Bits.{count}
 use Rattle.fields.specs.Models.{FieldModel}
@@ -31,16 +31,10 @@ module _ {F : Type 0} (f : FieldModel F) (g : GraphModel) where
       let one = sum_member g.rows j (λ k. bit (is_open f g x k)) l in
       zero_true f (row_sum f g x j) (not-false (is_zero f (row_sum f g x j)) (false_from_ne_true (is_open f g x j) (λ t. omega (arith, one, ap bit t, open-sum x))))
 
-  -- a symbol s is put at place i of a word
-  module _ (ok : Valid g) (word : List F) (i : ℕ) (s : F) (hi : i < g.places) where
-    abbrev w : ℕ → F
-    w = symbols f word
-
-    abbrev x : ℕ → F
-    x = symbols f (set word i s)
-
+  -- two words that differ at place i alone
+  module _ (ok : Valid g) (w x : ℕ → F) (i : ℕ) (hi : i < g.places) (others : (a : ℕ) → a < g.places → a ≢ i → x a ≡ w a) where
     far_row : (j : ℕ) → meets g j i ≡ false → row_sum f g x j ≡ row_sum f g w j
-    far_row j none = row_same f g x w j (λ a l met. put_others f g.places word i s a l (λ e. cc))
+    far_row j none = row_same f g x w j (λ a l met. others a l (λ e. cc))
 
     pub few_changed : count g.rows (λ j. not (same f (row_sum f g w j) (row_sum f g x j))) ≤ g.degree
     few_changed =
@@ -67,7 +61,7 @@ module _ {F : Type 0} (f : FieldModel F) (g : GraphModel) where
             let h = coefficient f g j i in
             let grown : step_to f (x i) (w i) ≡ d = plus_cancel f (w i) (step_to f (x i) (w i)) d (stepped f (x i) (w i) ∙ here) in
             let closed : row_sum f g x j ≡ f.element 0 =
-            row_one f g x w j i hi (λ a l apart met. put_others f g.places word i s a l apart) ∙ ap (λ e. f.plus (row_sum f g w j) (f.times h e)) (grown ∙ sym p.2)
+            row_one f g x w j i hi (λ a l apart met. others a l apart) ∙ ap (λ e. f.plus (row_sum f g w j) (f.times h e)) (grown ∙ sym p.2)
             ∙ closes f (row_sum f g w j) h (coefficient_some f g ok fit j i p.0) in
             (closed_row x j closed, p.1, p.0)
 
@@ -104,12 +98,14 @@ module _ {F : Type 0} (f : FieldModel F) (g : GraphModel) where
             (cases_lt 0 (wrong_at w x j)))
 
 pub overwrites_touch_few_rows_lem : (F : Type 0) → OverwritesTouchFewRows F
-overwrites_touch_few_rows_lem F f g ok w i s hi = (few_changed f g ok w i s hi, few_opened f g ok w i s hi)
+overwrites_touch_few_rows_lem F f g ok w i s hi =
+    let others = put_others f g.places w i s in
+    (few_changed f g ok (symbols f w) (symbols f (set w i s)) i hi others, few_opened f g ok (symbols f w) (symbols f (set w i s)) i hi others)
 
 pub changes_close_rows_lem : (F : Type 0) → ChangesCloseRows F
 changes_close_rows_lem F f g ok fit w i v d long hi r =
     let s = f.plus (symbols f w i) d in
-    let fewer = closed_by f g ok w i s hi fit d (get_or-set_same w i s (f.element 0) (omega arith)) in
+    let fewer = closed_by f g ok (symbols f w) (symbols f (set w i s)) i hi (put_others f g.places w i s) fit d (get_or-set_same w i s (f.element 0) (omega arith)) in
     (omega (arith, fewer, r.by), omega (arith, fewer, r.by, r.most))
 
 pub open_rows_count_errors_lem : (F : Type 0) → OpenRowsCountErrors F

@@ -72,9 +72,10 @@ module _ {F : Type 0} (f : FieldModel F) (g : GraphModel) (ok : Valid g) (fit : 
     finds x code near enough =
         ⊎_elim
         (λ some.
-        let left = rank_open f g ok (symbols f b.word) some.0 some.1 some.2 in
-        absurd (omega (arith, used_up some, left, repair_closes f g ok fit budget a.word picks law.word_long legal, law.bounded x code)))
-        (λ none. sure_at_rest none x code near)
+        let s = some.1 in
+        let left = rank_open f g ok (symbols f b.word) s.0 s.1 s.2 in
+        absurd (omega (arith, used_up s, left, repair_closes f g ok fit budget a.word picks law.word_long legal, law.bounded x code)))
+        (λ none. sure_at_rest none.1 x code near)
         (rank_cases f g b.word)
 
     -- the word of a sure account is a near codeword
@@ -91,8 +92,8 @@ module _ {F : Type 0} (f : FieldModel F) (g : GraphModel) (ok : Valid g) (fit : 
         is_near,
         λ n.
             ⊎_elim
-            (λ some. absurd (not-spent (says Spent (some, used_up some))))
-            (λ none. (sure_at_rest none n.0 n.1 n.2).1)
+            (λ some. absurd (not-spent (says Spent (some.1, used_up some.1))))
+            (λ none. (sure_at_rest none.1 n.0 n.1 n.2).1)
             (rank_cases f g b.word),
       );
     }

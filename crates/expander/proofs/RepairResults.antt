@@ -47,11 +47,13 @@ module _ {F : Type 0} (f : FieldModel F) (g : GraphModel) (w : List F) where
       })
       h))
 
-  rank_shows : (o : Option ℕ) → MatchOption o (AllZero f g (symbols f w)) FirstRanked → SomeRank ⊎ AllZero f g (symbols f w)
-  rank_shows None none = inr none
-  rank_shows (Some i) first = inl (i, first.0, first.1)
+  -- the first place with a rank tells whether there is one
+  rank_shows : (o : Option ℕ) → MatchOption o (AllZero f g (symbols f w)) FirstRanked
+      → ((is_some o ≡ true) × SomeRank) ⊎ ((is_some o ≡ false) × AllZero f g (symbols f w))
+  rank_shows None none = inr (refl, none)
+  rank_shows (Some i) first = inl (refl, (i, first.0, first.1))
 
-  pub rank_cases : SomeRank ⊎ AllZero f g (symbols f w)
+  pub rank_cases : ((is_some (lowest_ranked f g w) ≡ true) × SomeRank) ⊎ ((is_some (lowest_ranked f g w) ≡ false) × AllZero f g (symbols f w))
   rank_cases = rank_shows (lowest_ranked f g w) lowest_tells
 
   no_rank : SomeRank → AllZero f g (symbols f w) → ⊥
@@ -120,8 +122,8 @@ module _ {F : Type 0} (f : FieldModel F) (g : GraphModel) where
             cond_both none_open Closed _ (OutcomeSays f g budget made a)
             (λ z. (eqb-true (open_of f g a) 0 z, ⊎_elim (λ no. cc) (leb-false gap a.level) (and_cases none_open _ s)))
             (λ z.
-            ⊎_elim (λ some. rw (some_shows f g a.word some) (some, all some))
-            (λ none. let n = eqb-false (open_of f g a) 0 z in rw (none_shows f g a.word none) (omega (arith, n), none))
+            ⊎_elim (λ some. rw some.0 (some.1, all some.1))
+            (λ none. let n = eqb-false (open_of f g a) 0 z in rw none.0 (omega (arith, n), none.1))
             (rank_cases f g a.word)))
 
         -- and nothing else is

@@ -9,20 +9,20 @@ use Rattle.expander.specs.Sets.{Rising, SetUpTo, sets_from, sets_up_to, choose, 
 
 -- lists in order, joined, and mapped by what keeps the order
 module _ {X : Type 0} (R : X → X → Type 0) where
-  AllPairs-append : (xs ys : List X) → AllPairs R xs → AllPairs R ys → All (λ x. All (R x) ys) xs → AllPairs R (xs ++ ys)
+  pub AllPairs-append : (xs ys : List X) → AllPairs R xs → AllPairs R ys → All (λ x. All (R x) ys) xs → AllPairs R (xs ++ ys)
   AllPairs-append [] ys p q h = q
   AllPairs-append (x ∷ xs) ys p q h =
       AllPairs-cons R x (xs ++ ys)
       (All-append (R x) xs ys (λ k d l. p 0 (suc k) d (omega arith) (omega arith)) (All-head (λ y. All (R y) ys) x xs h))
       (AllPairs-append xs ys (λ i k d l b. p (suc i) (suc k) d (omega arith) (omega arith)) q (All-tail (λ y. All (R y) ys) x xs h))
 
-  AllPairs-map : (f : X → X) → ((x y : X) → R x y → R (f x) (f y)) → (xs : List X) → AllPairs R xs → AllPairs R (map f xs)
+  pub AllPairs-map : (f : X → X) → ((x y : X) → R x y → R (f x) (f y)) → (xs : List X) → AllPairs R xs → AllPairs R (map f xs)
   AllPairs-map f keeps xs p i k d l b =
       let inside : k < length xs = omega (arith, length-map xs f) in
       rw (get_or-map f xs i d d (omega arith), get_or-map f xs k d d inside) (keeps (get_or xs i d) (get_or xs k d) (p i k d l inside))
 
 -- what f makes of an element of the list is in the mapped list
-Contains-map : {X Y : Type 0} (f : X → Y) (xs : List X) (x : X) → Contains xs x → Contains (map f xs) (f x)
+pub Contains-map : {X Y : Type 0} (f : X → Y) (xs : List X) (x : X) → Contains xs x → Contains (map f xs) (f x)
 Contains-map f xs x h = (h.0, omega (arith, length-map xs f, h.1), get_or-map f xs h.0 x (f x) h.1 ∙ ap f h.2)
 
 -- places that ascend from low on ascend from anything lower on
@@ -30,16 +30,21 @@ pub rising_lower : (low' low n : ℕ) (V : List ℕ) → low' ≤ low → Rising
 rising_lower low' low n [] l h = tt
 rising_lower low' low n (p ∷ V) l h = (omega arith, h.1, h.2)
 
+-- places that ascend below n ascend below anything higher
+pub rising_higher : (low n n' : ℕ) (V : List ℕ) → n ≤ n' → Rising low n V → Rising low n' V
+rising_higher low n n' [] l h = tt
+rising_higher low n n' (p ∷ V) l h = (h.0, omega arith, rising_higher (suc p) n n' V l h.2)
+
 -- A set of k places from low on and below n.
 pub record SetOf (low n k : ℕ) (V : List ℕ) : Type 0 where
   pub size : length V ≡ k
   pub rising : Rising low n V
 
 -- low and a set above it
-set_with : (low n k : ℕ) (V : List ℕ) → low < n → SetOf (suc low) n k V → SetOf low n (suc k) (low ∷ V)
+pub set_with : (low n k : ℕ) (V : List ℕ) → low < n → SetOf (suc low) n k V → SetOf low n (suc k) (low ∷ V)
 set_with low n k V l h = record { size = ap suc h.size; rising = (omega arith, l, h.rising) }
 
-set_lower : (low n k : ℕ) (V : List ℕ) → SetOf (suc low) n k V → SetOf low n k V
+pub set_lower : (low n k : ℕ) (V : List ℕ) → SetOf (suc low) n k V → SetOf low n k V
 set_lower low n k V h = record { size = h.size; rising = rising_lower low (suc low) n V (omega arith) h.rising }
 
 -- the bound on the size is any that holds
@@ -47,7 +52,7 @@ pub resized : (n s t : ℕ) (V : List ℕ) → length V ≤ t → SetUpTo n s V 
 resized n s t V l h = record { rising = h.rising; some = h.some; few = l }
 
 -- the order stays where both sets get the same first place
-before_cons : (p : ℕ) (V W : List ℕ) → Before V W → Before (p ∷ V) (p ∷ W)
+pub before_cons : (p : ℕ) (V W : List ℕ) → Before V W → Before (p ∷ V) (p ∷ W)
 before_cons p V W (inl l) = inl (omega arith)
 before_cons p V W (inr h) = inr (ap suc h.0, inr (refl, h.1))
 
@@ -62,7 +67,7 @@ not_lexicographic (p ∷ V) (inl l) = omega arith
 not_lexicographic (p ∷ V) (inr h) = not_lexicographic V h.1
 
 -- no set comes before itself
-not_before : (V : List ℕ) → Before V V → ⊥
+pub not_before : (V : List ℕ) → Before V V → ⊥
 not_before V (inl l) = omega arith
 not_before V (inr h) = not_lexicographic V h.1
 
@@ -99,7 +104,7 @@ from_sound low (suc rest) n (suc k) e =
     (λ i d l. set_lower low n (suc k) _ (from_sound (suc low) rest n (suc k) (omega arith) i d l))
 
 -- sets-from holds every set
-from_complete : (low rest n k : ℕ) (V : List ℕ) → low + rest ≡ n → SetOf low n k V → Contains (sets_from low rest k) V
+pub from_complete : (low rest n k : ℕ) (V : List ℕ) → low + rest ≡ n → SetOf low n k V → Contains (sets_from low rest k) V
 unfolding sets_from
 from_complete low zero n zero [] e h = (0, omega arith, refl)
 from_complete low zero n zero (p ∷ V) e h = absurd (omega arith)
@@ -125,7 +130,7 @@ before_above : (low rest n k : ℕ) (V : List ℕ) → low + suc rest ≡ n → 
 before_above low rest n k V e h i d l = lowest_first low n k V _ h.size (from_sound (suc low) rest n (suc k) (omega arith) i d l)
 
 -- sets-from holds the sets in order
-from_ordered : (low rest n k : ℕ) → low + rest ≡ n → AllPairs Before (sets_from low rest k)
+pub from_ordered : (low rest n k : ℕ) → low + rest ≡ n → AllPairs Before (sets_from low rest k)
 unfolding sets_from
 from_ordered low zero n zero e = λ i j d l b. absurd (omega arith)
 from_ordered low zero n (suc k) e = λ i j d l b. absurd (omega arith)
@@ -138,7 +143,7 @@ from_ordered low (suc rest) n (suc k) e =
     (λ i d l. before_above low rest n k _ e (from_sound (suc low) rest n k (omega arith) i d l)))
 
 module _ (n : ℕ) where
-  length-up-to : (s : ℕ) → length (sets_up_to n s) ≡ number_of_sets n s
+  pub length-up-to : (s : ℕ) → length (sets_up_to n s) ≡ number_of_sets n s
   unfolding sets_up_to number_of_sets
   length-up-to zero = refl
   length-up-to (suc s) = length-append (sets_up_to n s) (sets_from 0 n (suc s)) ∙ ap₂ (λ m k. m + k) (length-up-to s) (length_from 0 n (suc s))
@@ -160,7 +165,7 @@ module _ (n : ℕ) where
       (λ i d l. let h = sized_sound (suc s) i d l in record { rising = h.rising; some = omega (arith, h.size); few = omega (arith, h.size) })
 
   -- sets-up-to holds every set
-  up_to_complete : (s : ℕ) (V : List ℕ) → SetUpTo n s V → Contains (sets_up_to n s) V
+  pub up_to_complete : (s : ℕ) (V : List ℕ) → SetUpTo n s V → Contains (sets_up_to n s) V
   unfolding sets_up_to
   up_to_complete zero V h = absurd (omega arith)
   up_to_complete (suc s) V h =
@@ -170,7 +175,7 @@ module _ (n : ℕ) where
       (cases_lt (length V) (suc s))
 
   -- sets-up-to holds the sets in order
-  up_to_ordered : (s : ℕ) → AllPairs Before (sets_up_to n s)
+  pub up_to_ordered : (s : ℕ) → AllPairs Before (sets_up_to n s)
   unfolding sets_up_to
   up_to_ordered zero = λ i k d l b. absurd (omega arith)
   up_to_ordered (suc s) =

@@ -121,6 +121,20 @@ sum_exceeds (suc n) h k l =
     (λ (below : k n ≤ h n). let r = sum_exceeds n h k (omega arith) in (r.0, omega (arith, r.1), r.2))
     (cases_lt (h n) (k n))
 
+-- two summands are part of the sum
+pub sum_pair : (n i k : ℕ) (h : ℕ → ℕ) → i < n → k < n → k ≢ i → h i + h k ≤ sum n h
+unfolding sum
+sum_pair zero i k h li lk apart = absurd (omega arith)
+sum_pair (suc n) i k h li lk apart =
+    ⊎_elim
+    (λ (here : i ≡ n). omega (arith, ap h here, sum_member n k h (omega arith)))
+    (λ (below : i ≡ n → ⊥).
+    ⊎_elim
+    (λ (there : k ≡ n). omega (arith, ap h there, sum_member n i h (omega arith)))
+    (λ (less : k ≡ n → ⊥). omega (arith, sum_pair n i k h (omega arith) (omega arith) apart))
+    (cases_eq k n))
+    (cases_eq i n)
+
 -- a sum that is 1 has one summand of 1, and nothing elsewhere
 pub one_in : (n : ℕ) (h : ℕ → ℕ) → sum n h ≡ 1 → (i : ℕ) × (i < n) × (h i ≡ 1) × ((k : ℕ) → k < n → k ≢ i → h k ≡ 0)
 unfolding sum

@@ -1,6 +1,7 @@
 -- What a survey tells: its level is exact, and it names the first set that fails. Assumes nothing.
-use Rattle.std.proofs.Common.{◌≡◌, ℕ, zero, suc, ◌<◌, ◌≤◌, Bool, true, false, ◌⊎◌, List, [], ◌∷◌, length, get_or, sym, refl, ap, ◌∙◌, inl, inr, ⊎_elim, arith}
+use Rattle.std.proofs.Common.{◌≡◌, ℕ, zero, suc, ◌+◌, ◌<◌, ◌≤◌, Bool, true, false, ◌⊎◌, List, [], ◌∷◌, ◌++◌, length, get_or, sym, refl, ap, ◌∙◌, inl, inr, ⊎_elim, suc-add, zero-add, arith}
 use Rattle.std.specs.List.{AllPass, prefix_len}
+use Rattle.std.proofs.lemmas.List.{length-append, get_or_append_left}
 use Rattle.std.proofs.lemmas.List.Sums.{prefix_len_passes, prefix_len_stops}
 use Rattle.std.proofs.lemmas.Bool.{cases_lt, cases_eq}
 use Rattle.graphs.specs.Models.{GraphModel}
@@ -8,9 +9,16 @@ use Rattle.expander.specs.Sets.{SetUpTo, Before, AllInOrder, sets_up_to}
 use Rattle.expander.specs.Expansion.{expands, AllExpand, Seen, seen, level_of, FailsFirst, Surveyed, SurveysTell}
 use Rattle.expander.proofs.SetLists.{resized, sets_in_order}
 
+-- n more sets were looked at before
+abbrev pub counted : ℕ → Seen → Seen
+counted n r = record { sets = n + r.sets; failing = r.failing }
+
 -- one more set was looked at before
 abbrev pub one_more : Seen → Seen
 one_more r = record { sets = suc r.sets; failing = r.failing }
+
+one_more_counted : (n : ℕ) (r : Seen) → one_more (counted n r) ≡ counted (suc n) r
+one_more_counted n r = ap (λ m. record { sets = m; failing = r.failing }) (sym (suc-add n r.sets))
 
 module _ (test : List ℕ → Bool) where
   -- a set that passes is counted, and the others are looked at
@@ -22,6 +30,13 @@ module _ (test : List ℕ → Bool) where
   pub seen_fail : (V : List ℕ) (Vs : List (List ℕ)) → test V ≡ false → seen test (V ∷ Vs) ≡ record { sets = 1; failing = V }
   unfolding seen
   seen_fail V Vs e = rw (e, seen)
+
+  -- where the sets in front pass, they are counted, and the others are looked at
+  pub seen-append : (Vs Ws : List (List ℕ)) → AllPass test Vs → seen test (Vs ++ Ws) ≡ counted (length Vs) (seen test Ws)
+  seen-append [] Ws h = ap (λ m. record { sets = m; failing = (seen test Ws).failing }) (sym (zero-add (seen test Ws).sets))
+  seen-append (V ∷ Vs) Ws h =
+      seen_next V (Vs ++ Ws) (h 0 [] (omega arith)) ∙ ap one_more (seen-append Vs Ws (λ k d l. h (suc k) d (omega arith)))
+      ∙ one_more_counted (length Vs) (seen test Ws)
 
   -- where every set passes, every set is counted
   pub seen_all : (Vs : List (List ℕ)) → AllPass test Vs → seen test Vs ≡ record { sets = length Vs; failing = [] }
@@ -37,8 +52,24 @@ module _ (test : List ℕ → Bool) where
       let later : FailsFirst test Vs k = record { within = omega arith; before = λ i l. h.before (suc i) (omega arith); fails = h.fails } in
       seen_next V Vs (h.before 0 (omega arith)) ∙ ap one_more (seen_first Vs k later)
 
+  -- the first set that fails is the first in every longer list
+  pub fails-append : (Vs Ws : List (List ℕ)) (k : ℕ) → FailsFirst test Vs k → FailsFirst test (Vs ++ Ws) k
+  fails-append Vs Ws k h = record {
+    within = omega (arith, length-append Vs Ws);
+    before = λ i l. ap test (get_or_append_left Vs Ws [] i (omega arith)) ∙ h.before i l;
+    fails = ap test (get_or_append_left Vs Ws [] k h.within) ∙ h.fails;
+  }
+
+  -- behind a set that passes, the first that fails stays the first
+  fails_next : (V : List ℕ) (Vs : List (List ℕ)) (k : ℕ) → test V ≡ true → FailsFirst test Vs k → FailsFirst test (V ∷ Vs) (suc k)
+  fails_next V Vs k e h = record { within = omega arith; before = earlier; fails = h.fails }
+    where
+      earlier : (i : ℕ) → i < suc k → test (get_or (V ∷ Vs) i []) ≡ true
+      earlier zero l = e
+      earlier (suc i) l = h.before i (omega arith)
+
   -- every set passes, or one is the first that fails
-  all_or_first : (Vs : List (List ℕ)) → AllPass test Vs ⊎ ((k : ℕ) × FailsFirst test Vs k)
+  pub all_or_first : (Vs : List (List ℕ)) → AllPass test Vs ⊎ ((k : ℕ) × FailsFirst test Vs k)
   all_or_first Vs =
       let passes : (i : ℕ) → i < prefix_len test Vs → test (get_or Vs i []) ≡ true = λ i l. prefix_len_passes test Vs i [] l in
       ⊎_elim
@@ -64,7 +95,7 @@ module _ (g : GraphModel) (s : ℕ) where
   in_place = sets_in_order g.places s
 
   -- no set of the list is larger than a later one
-  sizes_rise : (i k : ℕ) → i ≤ k → k < length listed → length (get_or listed i []) ≤ length (get_or listed k [])
+  pub sizes_rise : (i k : ℕ) → i ≤ k → k < length listed → length (get_or listed i []) ≤ length (get_or listed k [])
   sizes_rise i k l h =
       ⊎_elim
       (λ same. omega (arith, ap (λ x. length (get_or listed x [])) same))
