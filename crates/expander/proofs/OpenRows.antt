@@ -1,5 +1,5 @@
 -- How the open rows follow one symbol, and how many there are beside a codeword. Assumes nothing.
-use Rattle.std.proofs.Common.{◌≡◌, ℕ, ◌+◌, ◌*◌, ◌<◌, ◌≤◌, true, false, not, ◌⊎◌, ◌≢◌, List, set, sym, ap, ◌∙◌, inl, inr, ⊎_elim, mul_comm, arith, get_or-set_same}
+use Rattle.std.proofs.Common.{◌≡◌, ℕ, ◌+◌, ◌*◌, ◌<◌, ◌≤◌, true, false, not, ◌⊎◌, ◌≢◌, set, sym, ap, ◌∙◌, inl, inr, ⊎_elim, mul_comm, arith, get_or-set_same}
 use Rattle.std.proofs.lemmas.Bool.{not-false, not_from_true, true_from_ne_false, false_from_ne_true, cases_lt, cases_Bool}
 use Rattle.bitsets.specs.Bits.{count}
 use Rattle.fields.specs.Models.{FieldModel}
