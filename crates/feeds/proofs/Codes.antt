@@ -1,5 +1,5 @@
 -- The record that has a place, and the code that the place has for it. Assumes nothing.
-use Rattle.std.proofs.Common.{◌≡◌, ℕ, ◌<◌, ◌≤◌, eqb, List, length, Some, None, nat_lt, unwrap_or, sym, ap, ◌∙◌, arith}
+use Rattle.std.proofs.Common.{◌≡◌, ℕ, ◌-◌, ◌<◌, ◌≤◌, eqb, List, length, Some, None, nat_lt, unwrap_or, sym, ap, ◌∙◌, arith}
 use Rattle.std.specs.Bool.{then_some}
 use Rattle.std.specs.Option.{option_map}
 use Rattle.std.specs.List.{slice_get}
@@ -12,7 +12,7 @@ use Rattle.feeds.specs.Frames.{records, place_at, code_at, record_of, frame_code
 
 module _ (frame : List ℕ) where
   module _ (i : ℕ) where
-    record_is : (k : ℕ) → Ascending frame → k < records frame → place_at frame k ≡ i → record_of frame i ≡ Some k
+    pub record_is : (k : ℕ) → Ascending frame → k < records frame → place_at frame k ≡ i → record_of frame i ≡ Some k
     record_is k up lt e =
         sym (where_only (λ j. eqb (place_at frame j) i) 0 (records frame) (Some k) (record {
           from = omega arith;
@@ -23,6 +23,11 @@ module _ (frame : List ℕ) where
 
     no_record : ((k : ℕ) → k < records frame → place_at frame k ≡ i → ⊥) → record_of frame i ≡ None
     no_record h = sym (where_only (λ j. eqb (place_at frame j) i) 0 (records frame) None (λ j low high. ne_eqb (place_at frame j) i (h j (omega arith))))
+
+    -- no record has place i if record k is where it would stand, and has another
+    pub not_there : (k : ℕ) → Ascending frame → k ≤ records frame → (0 < k → place_at frame (k - 1) < i) → (k < records frame → i ≤ place_at frame k) → (k < records frame → place_at frame k ≡ i → ⊥) → record_of frame i ≡ None
+    not_there k up in_range before here other =
+        no_record (λ j lt e. let lower = up j (k - 1) in let higher = up k j in grind arith)
 
     -- the code of place i is that of the record that has it
     pub code_found : (k : ℕ) → Ascending frame → k < records frame → place_at frame k ≡ i → frame_code frame i ≡ code_at frame k
@@ -46,7 +51,7 @@ module _ (frame : List ℕ) where
         let long = length_codes in
         grind (arith, nat_tests, slice_get-get_or (frame_codes frame n) i 0, slice_get_past (frame_codes frame n) i, get_or-map-range_with_len (frame_code frame) 0 n i i 0)
 
-    code_there : (i : ℕ) → i < n → slice_get (frame_codes frame n) i ≡ Some (frame_code frame i)
+    pub code_there : (i : ℕ) → i < n → slice_get (frame_codes frame n) i ≡ Some (frame_code frame i)
     code_there i lt = let codes = slice_get_codes i in grind (arith, nat_tests)
 
 pub record_codes : RecordCodes

@@ -32,7 +32,18 @@ impl<'a> FrameFeed<'a> {
         ensures before { (k : ℕ) → k < result → place_at self.now.frame.now k < place }
         ensures after { (k : ℕ) → result ≤ k → k < records self.now.frame.now → place ≤ place_at self.now.frame.now k }
     {
-        records(self.frame).partition_point(|record| Record::from(*record).place < place)
+        let records = records(self.frame);
+        let mut low = 0;
+        let mut high = records.len();
+        while low < high {
+            let middle = low + (high - low) / 2;
+            if Record::from(records[middle]).place < place {
+                low = middle + 1;
+            } else {
+                high = middle;
+            }
+        }
+        low
     }
 
     // The code of the record that has `place`, or 0.
@@ -56,7 +67,11 @@ impl Feed for FrameFeed<'_> {
     }
 
     fn code(&self, place: Place) -> Option<u16> {
-        (usize::from(place.0) < self.places).then_some(self.code_of(place.0))
+        if usize::from(place.0) < self.places {
+            Some(self.code_of(place.0))
+        } else {
+            None
+        }
     }
 }
 
