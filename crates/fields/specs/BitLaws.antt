@@ -1,10 +1,19 @@
 -- The two bits obey the laws of a field. Assumes nothing.
-use Rattle.std.specs.Prelude.{◌≡◌, ℕ, zero, suc, ◌<◌, refl}
+use Rattle.std.specs.Prelude.{◌≡◌, ℕ, zero, suc, ◌<◌, Bool, true, false, ◌==◌, refl}
 use Rattle.std.proofs.Common.{sym, subst, ◌∙◌, ap₂, arith, lit≤}
 use Rattle.std.proofs.lemmas.Nat.{xor_comm, xor_lt, and_assoc, and_comm}
 use Rattle.std.specs.Int.Bits.{and_self, xor_assoc, xor_self, xor_zero_r}
 use Rattle.fields.specs.CodeFields.{CodeField}
-use Rattle.fields.specs.Bits.{plus, negated, times, inverse}
+use Rattle.fields.specs.Bits.{code, plus, negated, times, inverse}
+
+pub code_small : (b : Bool) → code b < 2
+code_small true = lit≤ tt
+code_small false = lit≤ tt
+
+pub code-bit : (k : ℕ) → k < 2 → code (k == 1) ≡ k
+code-bit zero h = refl
+code-bit (suc zero) h = refl
+code-bit (suc (suc k)) h = absurd (omega arith)
 
 pub one-times : (b : ℕ) → b < 2 → times 1 b ≡ b
 one-times zero h = refl
@@ -21,15 +30,19 @@ times-plus zero b c ha hb hc = refl
 times-plus (suc zero) b c ha hb hc = one-times (plus b c) (xor_lt 1 b c hb hc) ∙ sym (ap₂ plus (one-times b hb) (one-times c hc))
 times-plus (suc (suc a)) b c ha hb hc = absurd (omega arith)
 
+-- the number 1 stands for one, and each other number for zero
 abbrev pub codes_2 : CodeField
 codes_2 = record {
   size = 2;
+  code_of = λ k. code (k == 1);
   plus = plus;
   negated = negated;
   times = times;
   inverse = inverse;
   size_low = lit≤ tt;
   size_high = lit≤ tt;
+  code_of_below = λ k. code_small (k == 1);
+  code_of_small = code-bit;
   plus_below = xor_lt 1;
   negated_below = λ a h. h;
   times_below = times_below;

@@ -1,5 +1,9 @@
 -- The two bits, with exclusive or and and. Assumes nothing.
-use Rattle.std.specs.Prelude.{ℕ, bit_and, bit_xor}
+use Rattle.std.specs.Prelude.{ℕ, Bool, cond, bit_and, bit_xor}
+
+-- the code of a bit
+abbrev pub code : Bool → ℕ
+code b = cond b 1 0
 
 abbrev pub plus : ℕ → ℕ → ℕ
 plus a b = bit_xor a b

@@ -1,15 +1,18 @@
 -- A field on codes. Assumes nothing.
 use Rattle.std.specs.Prelude.{◌≡◌, ℕ, ◌<◌, ◌≤◌}
 
--- Operations on the codes below a size, and the laws of a field.
+-- Operations on the codes below a size, and the laws of a field. `code_of k` is the code that the number k stands for.
 pub record CodeField : Type 0 where
   pub size : ℕ
+  pub code_of : ℕ → ℕ
   pub plus : ℕ → ℕ → ℕ
   pub negated : ℕ → ℕ
   pub times : ℕ → ℕ → ℕ
   pub inverse : ℕ → ℕ
   pub size_low : 2 ≤ size
   pub size_high : size ≤ 256
+  pub code_of_below : (k : ℕ) → code_of k < size
+  pub code_of_small : (k : ℕ) → k < size → code_of k ≡ k
   pub plus_below : (a b : ℕ) → a < size → b < size → plus a b < size
   pub negated_below : (a : ℕ) → a < size → negated a < size
   pub times_below : (a b : ℕ) → a < size → b < size → times a b < size

@@ -1,9 +1,8 @@
 -- The field whose elements are kept by their codes: its laws are those of the codes, once for every such field. Assumes nothing.
-use Rattle.std.specs.Prelude.{◌≡◌, ℕ, ◌%◌, ◌<◌, ◌≢◌}
-use Rattle.std.proofs.Common.{sym, ◌∙◌, ap, ap₂, ⊎_elim, mod-lt, eq-zero-or-pos, arith}
+use Rattle.std.specs.Prelude.{◌≡◌, ℕ, ◌<◌, ◌≢◌}
+use Rattle.std.proofs.Common.{sym, ◌∙◌, ap, ap₂, ⊎_elim, eq-zero-or-pos, arith}
 use mathlib.Core.HLevel.{is_prop→PathP}
 use Rattle.std.proofs.Math.Bridge.{le_prop}
-use Rattle.std.proofs.Math.Nat.{mod-eq_of_lt}
 use Rattle.fields.specs.declared.elements.Element.{Element}
 use Rattle.fields.specs.CodeFields.{CodeField}
 use Rattle.fields.specs.Models.{FieldModel}
@@ -15,9 +14,9 @@ ElementOf C o = Element C (record { codes = o })
 pub some_code : (o : CodeField) → 0 < o.size
 some_code o = omega (arith, o.size_low)
 
--- the element of a code below the size
+-- the element of the code that a number stands for
 unfoldable pub element : {C : Type 0} {o : CodeField} → ℕ → ElementOf C o
-element {C} {o} k = record { code = k % o.size; codes = record {}; below = mod-lt k (some_code o) }
+element {C} {o} k = record { code = o.code_of k; codes = record {}; below = o.code_of_below k }
 
 module _ (C : Type 0) (o : CodeField) where
   pub same_code : (x y : ElementOf C o) → x.code ≡ y.code → x ≡ y
@@ -25,7 +24,7 @@ module _ (C : Type 0) (o : CodeField) where
 
   pub code-element : (k : ℕ) → k < o.size → (element {C = C} {o = o} k).code ≡ k
   unfolding element
-  code-element k h = mod-eq_of_lt h
+  code-element = o.code_of_small
 
   pub code-zero : (element {C = C} {o = o} 0).code ≡ 0
   code-zero = code-element 0 (some_code o)

@@ -1,6 +1,6 @@
 -- The polynomials of degree below 8 are a field. Assumes nothing.
 use Rattle.std.specs.Prelude.{◌≡◌, ℕ, zero, suc, ◌+◌, ◌*◌, ◌/◌, ◌%◌, ◌<◌, Bool, true, false, cond, ◌⊎◌, ◌==◌, bit_xor, nat_lt, refl}
-use Rattle.std.proofs.Common.{sym, ◌∙◌, ap, ap₂, inl, inr, ⊎_elim, eq-zero-or-pos, add-zero, add_comm, suc-add, zero-add, mul_comm, zero-mul, suc-mul, arith, lit≤}
+use Rattle.std.proofs.Common.{sym, ◌∙◌, ap, ap₂, inl, inr, ⊎_elim, eq-zero-or-pos, add-zero, add_comm, suc-add, zero-add, mul_comm, zero-mul, suc-mul, mod-lt, mod-eq_of_lt, arith, lit≤}
 use Rattle.std.proofs.lemmas.Nat.{xor_comm, xor_lt, xor_shr, xor_block}
 use Rattle.std.specs.Int.Bits.{xor_assoc, xor_self, xor_zero_r}
 use Rattle.fields.specs.CodeFields.{CodeField}
@@ -214,12 +214,15 @@ inverse-zero = zero-times (raised 0 253)
 abbrev pub codes_256 : CodeField
 codes_256 = record {
   size = 256;
+  code_of = λ k. k % 256;
   plus = plus;
   negated = negated;
   times = times;
   inverse = inverse;
   size_low = lit≤ tt;
   size_high = lit≤ tt;
+  code_of_below = λ k. mod-lt k (lit≤ tt);
+  code_of_small = λ k. mod-eq_of_lt;
   plus_below = xor_lt 8;
   negated_below = λ a h. h;
   times_below = λ a b ha hb. times_below a b ha;

@@ -12,8 +12,11 @@ negates a h =
     let whole : a + (101 - a) ≡ 101 = omega arith in
     add-mod-mod a (101 - a) 101 ∙ ap (λ x. x % 101) whole
 
-pub plus_modulo : (a b : ℕ) → (a % 101 + b % 101) % 101 ≡ (a + b) % 101
-plus_modulo a b = mod-add-mod a 101 (b % 101) ∙ add-mod-mod a b 101
+pub mod_plus_mod : (m a b : ℕ) → (a % m + b % m) % m ≡ (a + b) % m
+mod_plus_mod m a b = mod-add-mod a m (b % m) ∙ add-mod-mod a b m
+
+pub inverse_small : (a : ℕ) → inverse a < 101
+inverse_small a = mod-lt (a ^ 99) (lit≤ tt)
 
 all_invert : passes (λ a. times (suc a) (inverse (suc a)) == 1) 100 ≡ true
 unfolding passes
@@ -25,16 +28,19 @@ inverts = equal_from_one 100 (λ a. times a (inverse a)) (λ a. 1) all_invert
 abbrev pub codes_101 : CodeField
 codes_101 = record {
   size = 101;
+  code_of = λ k. k % 101;
   plus = plus;
   negated = negated;
   times = times;
   inverse = inverse;
   size_low = lit≤ tt;
   size_high = lit≤ tt;
+  code_of_below = λ k. mod-lt k (lit≤ tt);
+  code_of_small = λ k. mod-eq_of_lt;
   plus_below = λ a b ha hb. mod-lt (a + b) (lit≤ tt);
   negated_below = λ a ha. mod-lt (101 - a) (lit≤ tt);
   times_below = λ a b ha hb. mod-lt (a * b) (lit≤ tt);
-  inverse_below = λ a ha. mod-lt (a ^ 99) (lit≤ tt);
+  inverse_below = λ a ha. inverse_small a;
   plus_assoc = λ a b c ha hb hc. mod-add-mod (a + b) 101 c ∙ ap (λ x. x % 101) (add_assoc a b c) ∙ sym (add-mod-mod a (b + c) 101);
   plus_comm = λ a b ha hb. ap (λ x. x % 101) (add_comm a b);
   plus-zero = λ a ha. ap (λ x. x % 101) (add-zero a) ∙ mod-eq_of_lt ha;
@@ -42,7 +48,7 @@ codes_101 = record {
   times_assoc = λ a b c ha hb hc. mul-mod_first (a * b) c 101 ∙ ap (λ x. x % 101) (mul_assoc a b c) ∙ sym (mul-mod_second a (b * c) 101);
   times_comm = λ a b ha hb. ap (λ x. x % 101) (mul_comm a b);
   times-one = λ a ha. ap (λ x. x % 101) (mul-one a) ∙ mod-eq_of_lt ha;
-  times-plus = λ a b c ha hb hc. mul-mod_second a (b + c) 101 ∙ ap (λ x. x % 101) (mul-add a b c) ∙ sym (plus_modulo (a * b) (a * c));
+  times-plus = λ a b c ha hb hc. mul-mod_second a (b + c) 101 ∙ ap (λ x. x % 101) (mul-add a b c) ∙ sym (mod_plus_mod 101 (a * b) (a * c));
   times-inverse = inverts;
   inverse-zero = refl;
 }
