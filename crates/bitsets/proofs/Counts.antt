@@ -25,7 +25,7 @@ count_le zero p = omega arith
 count_le (suc n) p = let less = count_le n p in grind (arith, nat_tests)
 
 -- the set digits of a word of n bits are its bits
-ones-count : (n w : ℕ) → w < 2 ^ n → ones w ≡ count n (bit w)
+pub ones-count : (n w : ℕ) → w < 2 ^ n → ones w ≡ count n (bit w)
 unfolding count ones
 ones-count zero w h = let none : w ≡ 0 = omega arith in ap ones none
 ones-count (suc n) w h =

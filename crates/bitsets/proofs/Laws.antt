@@ -11,7 +11,7 @@ use Rattle.bitsets.specs.Sets.{has, MembersBelow512, SameMembersSameSet}
 use Rattle.bitsets.proofs.Words.{bit_none, bit-or, bit_set, bit_clear, same_bits}
 
 -- bit j of word i is number 64 × i + j
-member_at : (words : List ℕ) (i j : ℕ) → j < 64 → member words (64 * i + j) ≡ bit (get_or words i 0) j
+pub member_at : (words : List ℕ) (i j : ℕ) → j < 64 → member words (64 * i + j) ≡ bit (get_or words i 0) j
 member_at words i j h =
     let word : (64 * i + j) / 64 ≡ i = omega arith in
     let place : (64 * i + j) % 64 ≡ j = omega arith in

@@ -5,15 +5,15 @@ use lib.Pow.{shr_le}
 use Rattle.std.proofs.lemmas.Nat.Bits.{bit_at-trailing_zeros}
 use Rattle.std.proofs.lemmas.Bool.{both_ways, cases_lt}
 use Rattle.std.proofs.lemmas.Bool.Decides.{nat_tests}
-use Rattle.firsts.specs.First.{first, first_where, FirstPass, NonePass}
+use Rattle.firsts.specs.First.{or_else, first, first_where, FirstPass, NonePass}
 use Rattle.firsts.proofs.Firsts.{cases_map, first_tells}
-use Rattle.firsts.proofs.Passes.{where_only, first_passing}
+use Rattle.firsts.proofs.Passes.{where_only, where_append, where_end, first_passing}
 use Rattle.bitsets.specs.Bits.{bit, member, Words}
 use Rattle.bitsets.proofs.Words.{bit_none, bit_past, bit-shr}
 use Rattle.bitsets.proofs.Laws.{member_past}
 
 -- the first member from n on among those of the same word
-abbrev first_near : List ℕ → ℕ → Option ℕ
+abbrev pub first_near : List ℕ → ℕ → Option ℕ
 first_near words n = first_where (member words) n (64 - n % 64)
 
 near_tells : (words : List ℕ) (n : ℕ) (r : Option ℕ) → first_near words n ≡ r → MatchOption r (NonePass (member words) n (64 - n % 64)) (FirstPass (member words) n (64 - n % 64))
@@ -76,3 +76,25 @@ module _ (words : List ℕ) (n : ℕ) where
             (cases_lt k (64 * at.at));
       })
       (first_tells in_word (n / 64) few))
+
+-- the first member from n on is in the word of n or, where that has none, in the words after it
+module _ (words : List ℕ) (n : ℕ) where
+  abbrev next : ℕ
+  next = 64 * (n / 64 + 1)
+
+  near_or_later : length words ≡ 8 → or_else (first_near words n) (first_where (member words) next (512 - next)) ≡ first_where (member words) n (512 - n)
+  near_or_later eight =
+      ⊎_elim
+      (λ inside.
+      let to : n + (64 - n % 64) ≡ next = omega arith in
+      let all : 64 - n % 64 + (512 - next) ≡ 512 - n = omega arith in
+      ap (λ k. or_else (first_near words n) (first_where (member words) k (512 - next))) (sym to)
+      ∙ sym (where_append (member words) n (64 - n % 64) (512 - next)) ∙ ap (first_where (member words) n) all)
+      (λ past. ap₂ or_else (sym (none_past words n (omega arith))) (where_end (member words) next 512 (omega arith)) ∙ sym (where_end (member words) n 512 past))
+      (cases_lt n 512)
+
+  pub first_near_is : length words ≡ 8 → (j : ℕ) → Some j ≡ first_near words n → Some j ≡ first_where (member words) n (512 - n)
+  first_near_is eight j e = ap (λ o. or_else o (first_where (member words) next (512 - next))) e ∙ near_or_later eight
+
+  pub first_later_is : length words ≡ 8 → None ≡ first_near words n → first_where (member words) next (512 - next) ≡ first_where (member words) n (512 - n)
+  first_later_is eight e = ap (λ o. or_else o (first_where (member words) next (512 - next))) e ∙ near_or_later eight

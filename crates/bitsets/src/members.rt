@@ -56,10 +56,21 @@ impl BitSet {
     }
 
     // The first member at or after `n`.
+    #[tactic(auto, using(crate::proofs::Searches::first_near_is, crate::proofs::Searches::first_later_is))]
     pub fn first_from(&self, n: usize) -> Option<usize>
         ensures { result ≡ first_where (has self.now) n (512 - n) }
     {
-        (n / 64..8).find_map(|i| self.first_in_word(n.max(64 * i)))
+        match self.first_in_word(n) {
+            Some(first) => Some(first),
+            None => self.first_in_words(n / 64 + 1),
+        }
+    }
+
+    // The first member of the words from `word` on.
+    fn first_in_words(&self, word: usize) -> Option<usize>
+        ensures { result ≡ first_where (has self.now) (64 * word) (512 - 64 * word) }
+    {
+        (word..8).find_map(|i| self.first_in_word(64 * i))
     }
 
     // The first member at or after `n` among those of the same word.

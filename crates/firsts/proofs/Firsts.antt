@@ -1,5 +1,5 @@
 -- What the first answer tells. Assumes nothing.
-use Rattle.std.proofs.Common.{◌≡◌, ℕ, zero, suc, ◌<◌, ◌≤◌, false, is_some, Some, None, Option, sym, refl, ⊎_elim, arith, MatchOption}
+use Rattle.std.proofs.Common.{◌≡◌, ℕ, zero, suc, ◌+◌, ◌-◌, ◌<◌, ◌≤◌, false, is_some, Some, None, Option, sym, refl, ap, ap₂, ◌∙◌, ⊎_elim, add-zero, zero-add, add-one, arith, MatchOption}
 use Rattle.std.proofs.lemmas.Bool.{cases_eq, cases_order}
 use Rattle.firsts.specs.First.{or_else, first, FirstAt, NoAnswer, FirstAnswers}
 
@@ -63,6 +63,35 @@ module _ {A : Type 0} (f : ℕ → Option A) where
 
   pub all_none_first : (k n : ℕ) → first f k n ≡ None → NoAnswer f k n
   all_none_first k n e = rw e at (first_tells k n)
+
+  or_else_assoc : (o p q : Option A) → or_else o (or_else p q) ≡ or_else (or_else o p) q
+  or_else_assoc None p q = refl
+  or_else_assoc (Some a) p q = refl
+
+  -- the first answer over two ranges, one behind the other
+  pub first_append : (k m n : ℕ) → first f k (m + n) ≡ or_else (first f k m) (first f (k + m) n)
+  first_append k zero n = ap₂ (first f) (sym (add-zero k)) (zero-add n)
+  first_append k (suc m) n =
+      let more : suc m + n ≡ suc (m + n) = omega arith in
+      let on : suc k + m ≡ k + suc m = omega arith in
+      ap (first f k) more ∙ ap (or_else (f k)) (first_append (suc k) m n ∙ ap (λ i. or_else (first f (suc k) m) (first f i n)) on)
+      ∙ or_else_assoc (f k) (first f (suc k) m) (first f (k + suc m) n)
+
+  module _ (k n : ℕ) where
+    -- the first answer is that of k or, where k has none, the first after it
+    pub first_step : k < n → first f k (n - k) ≡ or_else (f k) (first f (k + 1) (n - (k + 1)))
+    first_step h =
+        let more : n - k ≡ suc (n - (k + 1)) = omega arith in
+        ap (first f k) more ∙ ap (λ m. or_else (f k) (first f m (n - (k + 1)))) (sym (add-one k))
+
+    pub first_skip : k < n → f k ≡ None → first f k (n - k) ≡ first f (k + 1) (n - (k + 1))
+    first_skip h e = first_step h ∙ ap (λ o. or_else o (first f (k + 1) (n - (k + 1)))) e
+
+    pub first_here : (a : A) → k < n → f k ≡ Some a → first f k (n - k) ≡ Some a
+    first_here a h e = first_step h ∙ ap (λ o. or_else o (first f (k + 1) (n - (k + 1)))) e
+
+    pub first_end : n ≤ k → first f k (n - k) ≡ None
+    first_end h = let none : n - k ≡ 0 = omega arith in ap (first f k) none
 
 pub first_answers : (A : Type 0) → FirstAnswers A
 first_answers A f k n r = (λ e. rw e (first_tells f k n), first_only f k n r)

@@ -1,8 +1,8 @@
 -- What the first number that passes a test tells. Assumes nothing.
-use Rattle.std.proofs.Common.{◌≡◌, ℕ, ◌+◌, ◌<◌, Bool, true, false, cond, Some, None, Option, refl, subst, MatchOption}
+use Rattle.std.proofs.Common.{◌≡◌, ℕ, ◌+◌, ◌-◌, ◌<◌, ◌≤◌, Bool, true, false, cond, Some, None, Option, refl, subst, MatchOption}
 use Rattle.std.proofs.lemmas.Option.{cond_some}
-use Rattle.firsts.specs.First.{passing, first_where, FirstAt, FirstPass, NonePass, FirstPassing}
-use Rattle.firsts.proofs.Firsts.{cases_map, first_tells, first_only}
+use Rattle.firsts.specs.First.{or_else, passing, first_where, FirstAt, FirstPass, NonePass, FirstPassing}
+use Rattle.firsts.proofs.Firsts.{cases_map, first_tells, first_only, first_append, first_skip, first_here, first_end}
 
 -- what has no answer fails
 pub cond_none : {A : Type 0} (b : Bool) (x : A) → cond b (Some x) None ≡ None → b ≡ false
@@ -40,6 +40,23 @@ module _ (test : ℕ → Bool) where
 
     pub where_within : (j : ℕ) → Some j ≡ first_where test k n → j < k + n
     where_within j e = (rw (← e) at where_tells).within
+
+  pub where_append : (k m n : ℕ) → first_where test k (m + n) ≡ or_else (first_where test k m) (first_where test (k + m) n)
+  unfolding first_where
+  where_append k m n = first_append (passing test) k m n
+
+  module _ (k n : ℕ) where
+    pub where_skip : k < n → test k ≡ false → first_where test k (n - k) ≡ first_where test (k + 1) (n - (k + 1))
+    unfolding first_where
+    where_skip h e = first_skip (passing test) k n h (rw e refl)
+
+    pub where_here : k < n → test k ≡ true → first_where test k (n - k) ≡ Some k
+    unfolding first_where
+    where_here h e = first_here (passing test) k n k h (rw e refl)
+
+    pub where_end : n ≤ k → first_where test k (n - k) ≡ None
+    unfolding first_where
+    where_end h = first_end (passing test) k n h
 
 pub first_passing : FirstPassing
 first_passing test k n r = (λ e. rw e (where_tells test k n), where_only test k n r)

@@ -2,7 +2,7 @@
 use Rattle.std.proofs.Common.{◌≡◌, ℕ, zero, suc, ◌<◌, ◌≤◌, true, ltb, List, length, get_or, replicate, None, Some, Option, sym, refl, ap, ◌∙◌, ⊎_elim, arith, MatchOption}
 use Rattle.std.specs.Option.{option_map}
 use Rattle.std.proofs.lemmas.List.{get_or_past}
-use Rattle.std.proofs.lemmas.Bool.{ltb-true, ltb-false, cases_lt}
+use Rattle.std.proofs.lemmas.Bool.{ltb-true, ltb-false, lt-ltb, cases_lt}
 use Rattle.firsts.specs.First.{first_where}
 use Rattle.firsts.proofs.Firsts.{cases_map}
 use Rattle.firsts.proofs.Passes.{where_tells, where_only}
@@ -39,6 +39,22 @@ module _ (ranks : List ℕ) where
         zero_below = λ k low. omega (arith, ltb-false 0 (get_or ranks k 0) (first.before k (omega arith) low));
       })
       (where_tells (λ i. ltb 0 (get_or ranks i 0)) 0 (length ranks)))
+
+  -- an answer that is the lowest is what the definition finds
+  pub lowest_only : (r : Option ℕ) → MatchOption r (AllZero ranks) (λ i. IsLowest ranks (record { 0 = i })) → option_map (λ i. record { 0 = i }) r ≡ lowest ranks
+  lowest_only r h =
+      ap (option_map (λ i. record { 0 = i }))
+      (where_only (λ i. ltb 0 (get_or ranks i 0)) 0 (length ranks) r
+      (cases_map r (λ zeros i low high. ap (ltb 0) (zeros i))
+      (λ i is.
+      let here = lt-ltb 0 (get_or ranks i 0) is.positive in
+      record {
+        from = omega arith;
+        within = omega (arith, inside i here);
+        here = here;
+        before = λ k low high. ap (ltb 0) (is.zero_below k high);
+      })
+      h))
 
 -- the first marked place of a queue is the first with a rank above 0
 module _ (q : LowestQueue) where
