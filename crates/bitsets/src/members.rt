@@ -22,6 +22,7 @@ impl BitSet {
         }
     }
 
+    #[tactic(auto, using(crate::proofs::Laws::without_bit))]
     pub fn remove(&mut self, n: usize)
         ensures { (k : ℕ) → has self.new k ≡ (has self.old k && not (k == n)) }
     {
