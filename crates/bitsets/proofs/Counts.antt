@@ -33,6 +33,11 @@ ones-count (suc n) w h =
     let rest = ones-count n (w / 2) (omega (arith, pow-suc 2 n)) ∙ count_same n (bit (w / 2)) (λ k. bit w (1 + k)) (λ k l. bit-shr w 1 k) in
     ones_step w ∙ ap₂ (λ x y. x + y) low rest ∙ sym (count_add 1 n (bit w)) ∙ ap (λ m. count m (bit w)) (one-add n)
 
+-- the set digits of the first n words
+abbrev pub ones_below : List ℕ → ℕ → ℕ
+ones_below words zero = 0
+ones_below words (suc n) = ones_below words n + ones (get_or words n 0)
+
 -- the set digits of the words count their members
 pub ones_members : (words : List ℕ) → Words words → sum_by ones words ≡ count (64 * length words) (member words)
 unfolding count

@@ -1,13 +1,16 @@
 -- What a change of one word does to the members, and that the members fix the words. Assumes nothing.
-use Rattle.std.proofs.Common.{◌≡◌, ℕ, ◌+◌, ◌-◌, ◌*◌, ◌/◌, ◌%◌, ◌^◌, ◌<◌, ◌≤◌, false, not, ◌&&◌, ◌||◌, eqb, bit_and, bit_or, List, length, get_or, set, sym, ap, ◌∙◌, ap₂, ⊎_elim, arith}
+use Rattle.std.proofs.Common.{◌≡◌, ℕ, zero, suc, ◌+◌, ◌-◌, ◌*◌, ◌/◌, ◌%◌, ◌^◌, ◌<◌, ◌≤◌, false, not, ◌&&◌, ◌||◌, eqb, bit_and, bit_or, List, length, get_or, set, sym, refl, ap, ◌∙◌, ap₂, ⊎_elim, arith}
 use mathlib.Core.HLevel.{is_prop→PathP}
 use denote.Struct.Props.{props}
 use Rattle.std.proofs.lemmas.List.{get_or_past, get_or-set_other, ext_get_or}
 use Rattle.std.proofs.lemmas.Grind.{get_or-set_at}
-use Rattle.std.proofs.lemmas.Bool.{cases_eq, both_ways, cases_lt}
+use Rattle.std.proofs.lemmas.Bool.{cases_eq, both_ways, cases_lt, ne_eqb}
+use Rattle.std.proofs.lemmas.Nat.{or_lt}
+use Rattle.std.proofs.Math.Bool.{and-true}
 use Rattle.std.proofs.lemmas.Bool.Decides.{nat_tests}
-use Rattle.bitsets.specs.Bits.{bit, member, Words}
+use Rattle.bitsets.specs.Bits.{bit, member, Words, count}
 use Rattle.bitsets.specs.Sets.{has, MembersBelow512, SameMembersSameSet}
+use Rattle.bitsets.proofs.Counts.{count_same, count_add, ones-count, ones_below}
 use Rattle.bitsets.proofs.Words.{bit_none, bit-or, bit_set, bit_clear, same_bits}
 
 -- bit j of word i is number 64 × i + j
@@ -27,10 +30,10 @@ word_of words n = get_or words (n / 64) 0
 
 -- a word w takes the place of the one that holds n, and the numbers of other words stay as they were
 module _ (words : List ℕ) (n w k : ℕ) (inside : n / 64 < length words) where
-  member_same : k / 64 ≡ n / 64 → member (set words (n / 64) w) k ≡ bit w (k % 64)
+  pub member_same : k / 64 ≡ n / 64 → member (set words (n / 64) w) k ≡ bit w (k % 64)
   member_same e = ap (λ x. bit x (k % 64)) (get_or-set_at words (n / 64) (k / 64) w 0 e inside)
 
-  member_other : (k / 64 ≡ n / 64 → ⊥) → member (set words (n / 64) w) k ≡ member words k
+  pub member_other : (k / 64 ≡ n / 64 → ⊥) → member (set words (n / 64) w) k ≡ member words k
   member_other ne = ap (λ x. bit x (k % 64)) (get_or-set_other words (n / 64) (k / 64) w 0 ne)
 
 pub set_narrow : (words : List ℕ) (i w : ℕ) → i < length words → Words words → w < 2 ^ 64 → Words (set words i w)
@@ -39,6 +42,10 @@ set_narrow words i w l h hw k =
     (λ e. omega (arith, get_or-set_at words i k w 0 e l))
     (λ ne. omega (arith, get_or-set_other words i k w 0 ne, h k))
     (cases_eq k i)
+
+-- one bit more leaves the words narrow
+pub with_bit_narrow : (words : List ℕ) (n : ℕ) → n / 64 < length words → Words words → Words (set words (n / 64) (bit_or (word_of words n) (1 * 2 ^ (n % 64) % 2 ^ 64)))
+with_bit_narrow words n inside h = set_narrow words (n / 64) _ inside h (or_lt 64 _ _ (h (n / 64)) (omega arith))
 
 module _ (words : List ℕ) (n : ℕ) (inside : n / 64 < length words) (k : ℕ) where
   pub with_bit : member (set words (n / 64) (bit_or (word_of words n) (1 * 2 ^ (n % 64) % 2 ^ 64))) k ≡ (member words k || eqb k n)
@@ -55,6 +62,14 @@ module _ (words : List ℕ) (n : ℕ) (inside : n / 64 < length words) (k : ℕ)
       (λ ne. let other = member_other words n (bit_and (word_of words n) (2 ^ 64 - 1 - 1 * 2 ^ (n % 64) % 2 ^ 64)) k inside ne in grind (arith, nat_tests))
       (cases_eq (k / 64) (n / 64))
 
+-- where the number is no member at all
+pub without_none : (words : List ℕ) (n : ℕ) → length words ≡ 8 → 512 ≤ n → (k : ℕ) → member words k ≡ (member words k && not (eqb k n))
+without_none words n e h k =
+    ⊎_elim
+    (λ same. let none = member_past words k (omega arith) in none ∙ ap (λ b. b && not (eqb k n)) (sym none))
+    (λ other. sym (ap (λ b. member words k && not b) (ne_eqb k n other) ∙ and-true (member words k)))
+    (cases_eq k n)
+
 -- c has the words of a and b joined
 pub join_members : (a b c : List ℕ) → length a ≡ 8 → length b ≡ 8 → length c ≡ 8 → ((i : ℕ) → i < 8 → get_or c i 0 ≡ bit_or (get_or a i 0) (get_or b i 0)) → (k : ℕ) → member c k ≡ (member a k || member b k)
 join_members a b c la lb lc h k =
@@ -62,6 +77,22 @@ join_members a b c la lb lc h k =
     (λ l. ap (λ w. bit w (k % 64)) (h (k / 64) l) ∙ bit-or (get_or a (k / 64) 0) (get_or b (k / 64) 0) (k % 64))
     (λ past. let none = λ (words : List ℕ) (l : length words ≡ 8). member_past words k (omega arith) in none c lc ∙ sym (ap₂ ◌||◌ (none a la) (none b lb)))
     (cases_lt (k / 64) 8)
+
+pub join_narrow : (a b c : List ℕ) → length a ≡ 8 → length b ≡ 8 → length c ≡ 8 → ((i : ℕ) → i < 8 → get_or c i 0 ≡ bit_or (get_or a i 0) (get_or b i 0)) → Words a → Words b → Words c
+join_narrow a b c la lb lc h na nb i =
+    ⊎_elim
+    (λ l. omega (arith, h i l, or_lt 64 (get_or a i 0) (get_or b i 0) (na i) (nb i)))
+    (λ past. omega (arith, get_or_past c i 0 (omega arith)))
+    (cases_lt i 8)
+
+-- the set digits of the first n words count their members
+pub ones_below_members : (words : List ℕ) (n : ℕ) → Words words → ones_below words n ≡ count (64 * n) (member words)
+unfolding count
+ones_below_members words zero h = refl
+ones_below_members words (suc n) h =
+    let more : 64 * n + 64 ≡ 64 * suc n = omega arith in
+    ap₂ (λ x y. x + y) (ones_below_members words n h) (ones-count 64 (get_or words n 0) (h n) ∙ count_same 64 _ _ (λ j l. sym (member_at words n j l)))
+    ∙ sym (count_add (64 * n) 64 (member words)) ∙ ap (λ x. count x (member words)) more
 
 pub members_below : MembersBelow512
 members_below s k e =

@@ -25,7 +25,7 @@ none_past words n h = where_only (member words) n (64 - n % 64) None (λ k low h
 
 -- the word that holds n, shifted down to n, has the members from n on
 module _ (words : List ℕ) (n rest : ℕ) (is : rest ≡ get_or words (n / 64) 0 / 2 ^ (n % 64)) where
-  from_n : (k : ℕ) → n ≤ k → k / 64 ≡ n / 64 → member words k ≡ bit rest (k - n)
+  pub from_n : (k : ℕ) → n ≤ k → k / 64 ≡ n / 64 → member words k ≡ bit rest (k - n)
   from_n k low e =
       let there : k % 64 ≡ n % 64 + (k - n) = omega arith in
       ap₂ (λ i j. bit (get_or words i 0) j) e there ∙ sym (bit-shr (get_or words (n / 64) 0) (n % 64) (k - n)) ∙ ap (λ x. bit x (k - n)) (sym is)
