@@ -1,3 +1,4 @@
 pub mod Questions
 pub mod Opening
 pub mod Meetings
+pub mod Walks

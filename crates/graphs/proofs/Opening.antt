@@ -1,5 +1,5 @@
 -- What the check of a graph file counts and reads lies within its bytes. Assumes nothing.
-use Rattle.std.proofs.Common.{◌≡◌, ℕ, ◌+◌, ◌*◌, ◌<◌, ◌≤◌, true, List, length, sym, subst, mul-le-mul, mul-le-mul_left, le-mul_of_pos_right, arith}
+use Rattle.std.proofs.Common.{◌≡◌, ℕ, ◌+◌, ◌*◌, ◌<◌, ◌≤◌, true, List, length, sym, subst, mul-le-mul, mul-le-mul_left, mul-pos, le-mul_of_pos_right, arith}
 use Rattle.graphs.specs.declared.records.Form.{Form}
 use Rattle.graphs.specs.declared.records.Form.TheVariants.{Listed, Lift}
 use Rattle.graphs.specs.declared.records.Shape.{Shape}
@@ -10,12 +10,17 @@ few_bytes : (form : Form) → width form ≤ 8
 few_bytes Listed = omega arith
 few_bytes Lift = omega arith
 
-few_records : (s : Shape) → sizes_fit s ≡ true → records_of s ≤ 8192
+pub few_records : (s : Shape) → sizes_fit s ≡ true → records_of s ≤ 8192
 few_records s h =
     let z = sizes_of s h in
     let f = factors s.columns s.lift z.some_place in
     let columns : s.columns ≤ 512 = omega (arith, le-mul_of_pos_right s.columns f.1, z.few_places) in
     omega (arith, mul-le-mul columns z.few_edges)
+
+pub some_record : (s : Shape) → sizes_fit s ≡ true → 0 < records_of s
+some_record s h =
+    let z = sizes_of s h in
+    mul-pos (factors s.columns s.lift z.some_place).0 z.some_edge
 
 pub few_file_bytes : (s : Shape) → sizes_fit s ≡ true → width s.form * records_of s ≤ 65536
 few_file_bytes s h = omega (arith, mul-le-mul (few_bytes s.form) (few_records s h))

@@ -1,6 +1,6 @@
 -- A file has no fault exactly when it describes a graph, and that graph is lawful. Assumes nothing.
 use Rattle.std.specs.Prelude.{◌≡◌, ℕ, zero, suc, ◌+◌, ◌-◌, ◌*◌, ◌/◌, ◌%◌, ◌<◌, ◌≤◌, Bool, true, false, cond, ◌⊎◌, List, length, is_some, Some, None, Option, ◌==◌, ◌≢◌, refl}
-use Rattle.std.proofs.Common.{sym, ◌∙◌, ap, subst, inl, inr, ⊎_elim, mul-zero, zero-mul, mod-lt, mod-eq_of_lt, div-add-mod', arith}
+use Rattle.std.proofs.Common.{sym, ◌∙◌, ap, subst, inl, inr, ⊎_elim, mul-zero, zero-mul, mul_comm, le-mul_of_pos_right, mod-lt, mod-eq_of_lt, div-add-mod', arith}
 use Rattle.std.proofs.Math.Nat.{mod-eq-sub-mod}
 use Rattle.std.proofs.Math.Arith.{digits_lt, digits_div, digits_mod}
 use Rattle.std.proofs.lemmas.Bool.{eqb-true, eq-eqb, cases_lt}
@@ -159,8 +159,13 @@ weight_fits Listed bytes k o = omega (arith, o (6 * k + 4), o (6 * k + 4 + 1))
 weight_fits Lift bytes k o = omega (arith, o (8 * k + 6), o (8 * k + 6 + 1))
 
 module _ (bytes : List ℕ) (s : Shape) (d : Describes bytes s) where
-  some_lift : 1 ≤ s.lift
+  pub some_lift : 1 ≤ s.lift
   some_lift = (factors s.columns s.lift d.sizes.some_place).1
+
+  pub few_lift : s.lift ≤ 512
+  few_lift =
+      let product = le-mul_of_pos_right s.lift (factors s.columns s.lift d.sizes.some_place).0 in
+      omega (arith, product, mul_comm s.lift s.columns, d.sizes.few_places)
 
   in_column : (i : ℕ) → i < places_of s → i / s.lift < s.columns
   in_column i h = div_below i s.lift s.columns some_lift h

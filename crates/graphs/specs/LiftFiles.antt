@@ -1,11 +1,11 @@
 -- The lift: its faults, the graph that it means, and the edges of that graph. Assumes nothing.
-use Rattle.std.specs.Prelude.{◌≡◌, ℕ, ◌↔◌, List, None, Option, refl}
+use Rattle.std.specs.Prelude.{◌≡◌, ℕ, false, ◌↔◌, List, is_some, None, Option, refl}
 use Rattle.refusals.specs.declared.faults.Fault.{Fault}
 use Rattle.graphs.specs.declared.records.Form.TheVariants.{Lift}
 use Rattle.graphs.specs.declared.records.Shape.{Shape}
-use Rattle.graphs.specs.Models.{GraphModel, HasEdge}
-use Rattle.graphs.specs.Files.{file_fault, file_model, Describes, FileEdge}
-use Rattle.graphs.specs.FileLaws.{describes_from, describes_to, edge_in_file, edge_of_file}
+use Rattle.graphs.specs.Models.{GraphModel, Valid, HasEdge}
+use Rattle.graphs.specs.Files.{Octets, file_fault, file_model, Describes, FileEdge}
+use Rattle.graphs.specs.FileLaws.{describes_from, describes_to, valid_granted, edge_in_file, edge_of_file}
 
 -- a base rows, b base columns, lift size l, degree c
 abbrev pub lift_shape : ℕ → ℕ → ℕ → ℕ → Shape
@@ -37,6 +37,9 @@ LiftEdges = (bytes : List ℕ) (a b l c : ℕ) → DescribesLift bytes a b l c �
 -- and the graph of its shape is the lift's
 abbrev pub LiftModels : Type 0
 LiftModels = (bytes : List ℕ) (a b l c : ℕ) → file_model bytes (lift_shape a b l c) ≡ lift_model bytes a b l c
+
+pub valid_lift : (bytes : List ℕ) (a b l c : ℕ) → Octets bytes → is_some (lift_fault bytes a b l c) ≡ false → Valid (lift_model bytes a b l c)
+valid_lift bytes a b l c o none = valid_granted bytes (lift_shape a b l c) o none
 
 pub lift_granted : LiftGranted
 lift_granted bytes a b l c = (describes_from bytes (lift_shape a b l c), describes_to bytes (lift_shape a b l c))

@@ -1,5 +1,5 @@
 -- The listed file: its faults, the graph that it means, and the edges of that graph. Assumes nothing.
-use Rattle.std.specs.Prelude.{◌≡◌, ℕ, ◌+◌, ◌*◌, ◌/◌, ◌%◌, ◌<◌, ◌≤◌, ◌↔◌, List, length, None, Option}
+use Rattle.std.specs.Prelude.{◌≡◌, ℕ, ◌+◌, ◌*◌, ◌/◌, ◌%◌, ◌<◌, ◌≤◌, false, ◌↔◌, List, length, is_some, None, Option}
 use Rattle.std.proofs.Common.{sym, ap, subst, ◌∙◌, inl, ⊎_elim, mul-one, div-one, arith}
 use Rattle.std.proofs.Math.Path.{transport}
 use Rattle.std.proofs.Math.Nat.{mod-one}
@@ -7,9 +7,9 @@ use Rattle.refusals.specs.Numbers.{u16_at}
 use Rattle.refusals.specs.declared.faults.Fault.{Fault}
 use Rattle.graphs.specs.declared.records.Form.TheVariants.{Listed}
 use Rattle.graphs.specs.declared.records.Shape.{Shape}
-use Rattle.graphs.specs.Models.{GraphModel, Sizes, HasEdge}
-use Rattle.graphs.specs.Files.{entry_of, record_of, row_of, file_fault, file_model, Describes, FileEdge}
-use Rattle.graphs.specs.FileLaws.{describes_from, describes_to, edge_in_file, edge_of_file}
+use Rattle.graphs.specs.Models.{GraphModel, Sizes, Valid, HasEdge}
+use Rattle.graphs.specs.Files.{Octets, entry_of, record_of, row_of, file_fault, file_model, Describes, FileEdge}
+use Rattle.graphs.specs.FileLaws.{describes_from, describes_to, valid_granted, edge_in_file, edge_of_file}
 
 -- n places, m rows, degree c: a lift of size 1
 abbrev pub listed_shape : ℕ → ℕ → ℕ → Shape
@@ -133,3 +133,6 @@ listed_edges bytes n m c d = edges_of bytes n m c d
 
 pub listed_models : ListedModels
 listed_models = same_model
+
+pub valid_listed : (bytes : List ℕ) (n m c : ℕ) → Octets bytes → is_some (listed_fault bytes n m c) ≡ false → Valid (listed_model bytes n m c)
+valid_listed bytes n m c o none = subst Valid (listed_models bytes n m c) (valid_granted bytes (listed_shape n m c) o none)

@@ -73,9 +73,10 @@ impl Graph for FileGraph<'_> {
         if i >= self.places || k >= shape.degree {
             return None;
         }
-        let record = i / shape.lift * shape.degree + k;
+        let (column, t) = shape.column_of(i);
+        let record = column * shape.degree + k;
         let entry = shape.form.entry(self.file.bytes, record);
-        let row = shape.row(entry, i % shape.lift);
+        let row = shape.row(entry, t);
         Some(Edge {
             row: Row(row as u16),
             weight: entry.weight,

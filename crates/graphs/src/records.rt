@@ -1,7 +1,7 @@
-ghost use Rattle.std.specs.Prelude.{◌≡◌, ◌+◌, ◌*◌, ◌%◌, ◌<◌, ◌≤◌, length};
+ghost use Rattle.std.specs.Prelude.{◌≡◌, ◌+◌, ◌*◌, ◌/◌, ◌%◌, ◌<◌, ◌≤◌, true, length, IfOk};
 ghost use Rattle.std.specs.Result.{result_err};
 ghost use Rattle.refusals.specs.Numbers.{u16_at};
-ghost use Rattle.graphs.specs.Files.{width, entry_of, row_of, sizes_fit, records_of, in_order, ascends, in_range, record_fault, file_fault};
+ghost use Rattle.graphs.specs.Files.{width, entry_of, row_of, sizes_fit, records_of, in_order, ascends, in_range, entry_fault, first_fault, file_fault};
 ghost use Rattle.graphs.specs.ListedFiles.{listed_shape};
 ghost use Rattle.graphs.specs.LiftFiles.{lift_shape};
 
@@ -135,13 +135,13 @@ impl Shape {
         usize::from(entry.base) < self.bases && usize::from(entry.shift) < self.lift
     }
 
-    // Checks record `k`.
-    fn check_record(self, bytes: &[u8], k: usize) -> Result<(), Fault>
+    // Checks record `k`, which follows `before`, and answers it.
+    fn check_record(self, bytes: &[u8], k: usize, before: Entry) -> Result<Entry, Fault>
         requires some { 0 < self.degree }
         requires inside { width self.form * (k + 1) ≤ length bytes.now }
-        ensures { result_err result ≡ record_fault bytes.now self k }
+        ensures fault { result_err result ≡ entry_fault self k before (entry_of self.form bytes.now k) }
+        ensures entry { IfOk result (λ e. e ≡ entry_of self.form bytes.now k) }
     {
-        let before = self.form.entry(bytes, k.saturating_sub(1));
         let entry = self.form.entry(bytes, k);
         if !self.in_order(k, before, entry) {
             return Err(Layer::Shelf.fault(Refusal::RecordOrder, k));
@@ -152,7 +152,19 @@ impl Shape {
         if entry.weight == 0 {
             return Err(Layer::Shelf.fault(Refusal::ZeroWeight, k));
         }
-        Ok(())
+        Ok(entry)
+    }
+
+    // Checks the records of a file in their order. Its length has shown how many there are.
+    fn check_records(self, bytes: &[u8]) -> Result<(), Fault>
+        requires fits { sizes_fit self ≡ true }
+        requires long { length bytes.now ≡ width self.form * records_of self }
+        ensures { result_err result ≡ first_fault bytes.now self }
+    {
+        let first = self.form.entry(bytes, 0);
+        (0..self.columns * self.degree)
+            .try_fold(first, |before, k| self.check_record(bytes, k, before))
+            .map(|_| ())
     }
 
     // Checks the bytes of a file: the sizes first, then its length, then its records in their order.
@@ -162,11 +174,22 @@ impl Shape {
         if !self.fits() {
             return Err(Layer::Shelf.fault(Refusal::SizeOutOfRange, 0));
         }
-        let records = self.columns * self.degree;
-        if bytes.len() != self.form.width() * records {
+        if bytes.len() != self.form.width() * (self.columns * self.degree) {
             return Err(Layer::Shelf.fault(Refusal::FileLength, 0));
         }
-        (0..records).try_for_each(|k| self.check_record(bytes, k))
+        self.check_records(bytes)
+    }
+
+    // The column of place `i`, and which of the column's places it is. A listed file has a column for each place, and divides nothing.
+    pub(crate) fn column_of(self, i: usize) -> (usize, usize)
+        requires { 0 < self.lift }
+        ensures column { result.0 ≡ i / self.lift }
+        ensures place { result.1 ≡ i % self.lift }
+    {
+        if self.lift == 1 {
+            return (i, 0);
+        }
+        (i / self.lift, i % self.lift)
     }
 
     // The row that a record gives place `t` of its column.
@@ -175,6 +198,9 @@ impl Shape {
         requires below { t < self.lift }
         ensures { result ≡ row_of self entry t }
     {
+        if self.lift == 1 {
+            return usize::from(entry.base);
+        }
         usize::from(entry.base) * self.lift + (t + usize::from(entry.shift)) % self.lift
     }
 }
