@@ -1,9 +1,11 @@
--- What the check of a graph file counts and reads lies within its bytes. Assumes nothing.
-use Rattle.std.proofs.Common.{◌≡◌, ℕ, ◌+◌, ◌*◌, ◌<◌, ◌≤◌, true, List, length, sym, subst, mul-le-mul, mul-le-mul_left, mul-pos, le-mul_of_pos_right, arith}
+-- What the check of a graph file counts and reads lies within its bytes, and what it finds of each record. Assumes nothing.
+use Rattle.std.proofs.Common.{◌≡◌, ℕ, ◌+◌, ◌-◌, ◌*◌, ◌<◌, ◌≤◌, true, List, length, Option, sym, ◌∙◌, subst, mul-le-mul, mul-le-mul_left, mul-pos, le-mul_of_pos_right, arith}
+use Rattle.refusals.specs.declared.faults.Fault.{Fault}
+use Rattle.graphs.specs.declared.records.Entry.{Entry}
 use Rattle.graphs.specs.declared.records.Form.{Form}
 use Rattle.graphs.specs.declared.records.Form.TheVariants.{Listed, Lift}
 use Rattle.graphs.specs.declared.records.Shape.{Shape}
-use Rattle.graphs.specs.Files.{width, records_of, sizes_fit}
+use Rattle.graphs.specs.Files.{width, records_of, sizes_fit, entry_of, entry_fault, record_fault}
 use Rattle.graphs.specs.FileLaws.{sizes_of, factors}
 
 few_bytes : (form : Form) → width form ≤ 8
@@ -30,3 +32,7 @@ pub record_inside : (form : Form) (bytes : List ℕ) (n k : ℕ) → length byte
 record_inside form bytes n k e h =
     let up : k + 1 ≤ n = omega arith in
     subst (λ x. width form * (k + 1) ≤ x) (sym e) (mul-le-mul_left (width form) up)
+
+-- what the check of record k found, given the record and the one before it
+pub found_at : (bytes : List ℕ) (s : Shape) (k : ℕ) (before e : Entry) (o : Option Fault) → before ≡ entry_of s.form bytes (k - 1) → e ≡ entry_of s.form bytes k → o ≡ entry_fault s k before e → record_fault bytes s k ≡ o
+found_at bytes s k before e o b h q = (λ p. entry_fault s k (sym b p) (sym h p)) ∙ sym q

@@ -1,4 +1,5 @@
 pub mod Models
+pub mod Forms
 pub mod Files
 pub mod FileLaws
 pub mod LiftFiles

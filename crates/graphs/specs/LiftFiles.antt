@@ -9,7 +9,7 @@ use Rattle.graphs.specs.FileLaws.{describes_from, describes_to, valid_granted, e
 
 -- a base rows, b base columns, lift size l, degree c
 abbrev pub lift_shape : ℕ → ℕ → ℕ → ℕ → Shape
-lift_shape a b l c = record { form = Lift; bases = a; columns = b; lift = l; degree = c }
+lift_shape a b l c = record { form = Lift; bases = a; columns = b; lift = l; degree = c; single = refl }
 
 -- what is wrong with a lift, if anything
 abbrev pub lift_fault : List ℕ → ℕ → ℕ → ℕ → ℕ → Option Fault

@@ -1,5 +1,5 @@
 -- The listed file: its faults, the graph that it means, and the edges of that graph. Assumes nothing.
-use Rattle.std.specs.Prelude.{◌≡◌, ℕ, ◌+◌, ◌*◌, ◌/◌, ◌%◌, ◌<◌, ◌≤◌, false, ◌↔◌, List, length, is_some, None, Option}
+use Rattle.std.specs.Prelude.{◌≡◌, ℕ, ◌+◌, ◌*◌, ◌/◌, ◌%◌, ◌<◌, ◌≤◌, false, ◌↔◌, List, length, is_some, None, Option, refl}
 use Rattle.std.proofs.Common.{sym, ap, subst, ◌∙◌, inl, ⊎_elim, mul-one, div-one, arith}
 use Rattle.std.proofs.Math.Path.{transport}
 use Rattle.std.proofs.Math.Nat.{mod-one}
@@ -13,7 +13,7 @@ use Rattle.graphs.specs.FileLaws.{describes_from, describes_to, valid_granted, e
 
 -- n places, m rows, degree c: a lift of size 1
 abbrev pub listed_shape : ℕ → ℕ → ℕ → Shape
-listed_shape n m c = record { form = Listed; bases = m; columns = n; lift = 1; degree = c }
+listed_shape n m c = record { form = Listed; bases = m; columns = n; lift = 1; degree = c; single = refl }
 
 -- what is wrong with a listed file, if anything
 abbrev pub listed_fault : List ℕ → ℕ → ℕ → ℕ → Option Fault

@@ -1,9 +1,7 @@
 ghost use Rattle.std.specs.Prelude.{◌≡◌, ◌+◌, ◌*◌, ◌/◌, ◌%◌, ◌<◌, ◌≤◌, true, length, IfOk};
 ghost use Rattle.std.specs.Result.{result_err};
 ghost use Rattle.refusals.specs.Numbers.{u16_at};
-ghost use Rattle.graphs.specs.Files.{width, entry_of, row_of, sizes_fit, records_of, in_order, ascends, in_range, entry_fault, first_fault, file_fault};
-ghost use Rattle.graphs.specs.ListedFiles.{listed_shape};
-ghost use Rattle.graphs.specs.LiftFiles.{lift_shape};
+ghost use Rattle.graphs.specs.Forms.{lift_fits};
 
 use refusals::{Fault, Layer, Refusal};
 
@@ -14,7 +12,7 @@ pub enum Form {
     Lift,
 }
 
-// The form of a graph file's records, and the numbers that it is opened with.
+// The form of a graph file's records, and the numbers that it is opened with. A listed file is a lift of size 1.
 #[derive(Clone, Copy)]
 pub struct Shape {
     pub(crate) form: Form,
@@ -22,6 +20,7 @@ pub struct Shape {
     pub(crate) columns: usize,
     pub(crate) lift: usize,
     pub(crate) degree: usize,
+    ghost single: { lift_fits form lift ≡ true },
 }
 
 // One record of a graph file.
@@ -42,6 +41,8 @@ fn read_u16(bytes: &[u8], at: usize) -> u16
 }
 
 impl Form {
+    ghost use Rattle.graphs.specs.Files.{width, entry_of};
+
     // The bytes of a record.
     fn width(self) -> usize
         ensures { result ≡ width self }
@@ -72,6 +73,8 @@ impl Form {
 }
 
 impl Entry {
+    ghost use Rattle.graphs.specs.Files.{ascends};
+
     fn ascends_from(self, before: Entry) -> bool
         ensures { result ≡ ascends before self }
     {
@@ -80,6 +83,10 @@ impl Entry {
 }
 
 impl Shape {
+    ghost use Rattle.graphs.specs.Files.{width, entry_of, row_of, sizes_fit, records_of, in_order, in_range, entry_fault, first_fault, file_fault};
+    ghost use Rattle.graphs.specs.ListedFiles.{listed_shape};
+    ghost use Rattle.graphs.specs.LiftFiles.{lift_shape};
+
     // A file that lists every edge of a graph with these numbers: a lift of size 1.
     pub fn listed(places: usize, rows: usize, degree: usize) -> Shape
         ensures { result ≡ listed_shape places rows degree }
@@ -155,14 +162,15 @@ impl Shape {
         Ok(entry)
     }
 
-    // Checks the records of a file in their order. Its length has shown how many there are.
+    // Checks the records of a file in their order. The file's length has shown how many there are.
     fn check_records(self, bytes: &[u8]) -> Result<(), Fault>
         requires fits { sizes_fit self ≡ true }
         requires long { length bytes.now ≡ width self.form * records_of self }
         ensures { result_err result ≡ first_fault bytes.now self }
     {
         let first = self.form.entry(bytes, 0);
-        (0..self.columns * self.degree)
+        let records = self.columns * self.degree;
+        (0..records)
             .try_fold(first, |before, k| self.check_record(bytes, k, before))
             .map(|_| ())
     }
@@ -180,16 +188,16 @@ impl Shape {
         self.check_records(bytes)
     }
 
-    // The column of place `i`, and which of the column's places it is. A listed file has a column for each place, and divides nothing.
+    // The column of place `i`, and which of the column's places it is.
     pub(crate) fn column_of(self, i: usize) -> (usize, usize)
         requires { 0 < self.lift }
         ensures column { result.0 ≡ i / self.lift }
         ensures place { result.1 ≡ i % self.lift }
     {
-        if self.lift == 1 {
-            return (i, 0);
+        match self.form {
+            Form::Listed => (i, 0),
+            Form::Lift => (i / self.lift, i % self.lift),
         }
-        (i / self.lift, i % self.lift)
     }
 
     // The row that a record gives place `t` of its column.
@@ -198,9 +206,10 @@ impl Shape {
         requires below { t < self.lift }
         ensures { result ≡ row_of self entry t }
     {
-        if self.lift == 1 {
-            return usize::from(entry.base);
+        let base = usize::from(entry.base);
+        match self.form {
+            Form::Listed => base,
+            Form::Lift => base * self.lift + (t + usize::from(entry.shift)) % self.lift,
         }
-        usize::from(entry.base) * self.lift + (t + usize::from(entry.shift)) % self.lift
     }
 }
