@@ -27,6 +27,7 @@ impl<'a> FrameFeed<'a> {
 
     // Where a record with `place` would stand, found by halving: the records before have lower places, and those from
     // there on have not.
+    // By hand, since `partition_point` may take one step more.
     fn lower_bound(&self, place: u16) -> usize
         ensures within { result ≤ records self.now.frame.now }
         ensures before { (k : ℕ) → k < result → place_at self.now.frame.now k < place }
