@@ -1,5 +1,5 @@
 -- What a change of one word does to the members, and that the members fix the words. Assumes nothing.
-use Rattle.std.proofs.Common.{◌≡◌, ℕ, zero, suc, ◌+◌, ◌-◌, ◌*◌, ◌/◌, ◌%◌, ◌^◌, ◌<◌, ◌≤◌, false, not, ◌&&◌, ◌||◌, eqb, bit_and, bit_or, List, length, get_or, set, sym, refl, ap, ◌∙◌, ap₂, ⊎_elim, arith}
+use Rattle.std.proofs.Common.{◌≡◌, ℕ, zero, suc, ◌+◌, ◌-◌, ◌*◌, ◌/◌, ◌%◌, ◌^◌, ◌<◌, ◌≤◌, false, not, ◌&&◌, ◌||◌, eqb, bit_and, bit_or, count_ones, List, length, get_or, set, sym, refl, ap, ◌∙◌, ap₂, ⊎_elim, arith}
 use mathlib.Core.HLevel.{is_prop→PathP}
 use denote.Struct.Props.{props}
 use Rattle.std.proofs.lemmas.List.{get_or_past, get_or-set_other, ext_get_or}
@@ -8,9 +8,11 @@ use Rattle.std.proofs.lemmas.Bool.{cases_eq, both_ways, cases_lt, ne_eqb}
 use Rattle.std.proofs.lemmas.Nat.{or_lt}
 use Rattle.std.proofs.Math.Bool.{and-true}
 use Rattle.std.proofs.lemmas.Bool.Decides.{nat_tests}
+use Rattle.std.specs.List.{sum_by}
+use Rattle.bitsets.specs.declared.sets.BitSet.{BitSet}
 use Rattle.bitsets.specs.Bits.{bit, member, Words, count}
 use Rattle.bitsets.specs.Sets.{has, MembersBelow512, SameMembersSameSet}
-use Rattle.bitsets.proofs.Counts.{count_same, count_add, ones-count, ones_below}
+use Rattle.bitsets.proofs.Counts.{count_same, count_add, ones-count, ones_below, ones_members}
 use Rattle.bitsets.proofs.Words.{bit_none, bit-or, bit_set, bit_clear, same_bits}
 
 -- bit j of word i is number 64 × i + j
@@ -93,6 +95,10 @@ ones_below_members words (suc n) h =
     let more : 64 * n + 64 ≡ 64 * suc n = omega arith in
     ap₂ (λ x y. x + y) (ones_below_members words n h) (ones-count 64 (get_or words n 0) (h n) ∙ count_same 64 _ _ (λ j l. sym (member_at words n j l)))
     ∙ sym (count_add (64 * n) 64 (member words)) ∙ ap (λ x. count x (member words)) more
+
+-- the set digits of a set's words count its members
+pub ones_are_members : (s : BitSet) → sum_by count_ones s.words ≡ count 512 (has s)
+ones_are_members s = ones_members s.words s.narrow ∙ ap (λ n. count (64 * n) (has s)) s.eight
 
 pub members_below : MembersBelow512
 members_below s k e =

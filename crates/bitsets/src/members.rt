@@ -1,4 +1,5 @@
-ghost use Rattle.std.specs.Prelude.{◌≡◌, ℕ, ◌+◌, ◌-◌, ◌*◌, ◌/◌, ◌%◌, ◌<◌, false, not, ◌&&◌, ◌||◌, ◌==◌, nat_lt};
+ghost use Rattle.std.specs.Prelude.{◌≡◌, ◌≤◌, length, count_ones, ℕ, ◌+◌, ◌-◌, ◌*◌, ◌/◌, ◌%◌, ◌<◌, false, not, ◌&&◌, ◌||◌, ◌==◌, nat_lt};
+ghost use Rattle.std.specs.List.{sum_by};
 ghost use Rattle.firsts.specs.First.{first_where};
 ghost use Rattle.bitsets.specs.Bits.{count};
 ghost use Rattle.bitsets.specs.Sets.{has, MembersBelow512, SameMembersSameSet};
@@ -47,13 +48,11 @@ impl BitSet {
     }
 
     // The number of members.
+    #[tactic(auto, using(crate::proofs::Laws::ones_are_members))]
     pub fn len(&self) -> usize
         ensures { result ≡ count 512 (has self.now) }
     {
-        self.words
-            .iter()
-            .map(|word| word.count_ones() as usize)
-            .sum()
+        ones(&self.words)
     }
 
     // The first member at or after `n`.
@@ -85,6 +84,14 @@ impl BitSet {
             Some(n + rest.trailing_zeros() as usize)
         }
     }
+}
+
+// How many bits of these words are set.
+fn ones(words: &[u64]) -> usize
+    requires { length words.now ≤ 8 }
+    ensures { result ≡ sum_by count_ones words.now }
+{
+    words.iter().map(|word| word.count_ones() as usize).sum()
 }
 
 // A bit set has no members but numbers below 512, and its members fix it.
