@@ -1,4 +1,4 @@
-use Rattle.std.proofs.Common.{refl, rules, arith}
+use Rattle.std.proofs.Common.{rules, arith}
 use Rattle.firsts.proofs.Ranges.{first_by_find_map}
 use Rattle.graphs.specs.Models.{weight_to}
 use Rattle.graphs.proofs.Questions.{weighed}
@@ -10,4 +10,4 @@ returns g c =
     first_by_find_map _ _ (weight_to m c.args.row.0 c.args.place.0) _
     (λ x o q k. search rules)
     (λ k o low high called. weighed m c.args.row.0 c.args.place.0 k o (omega (arith, high, c.degree.ensures)) (search rules))
-    0 m.degree _ refl (omega (arith, c.degree.ensures)) c.find_map.ensures.runs
+    0 m.degree _ (omega arith) (omega (arith, c.degree.ensures)) c.find_map.ensures.runs
